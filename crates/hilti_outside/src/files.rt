@@ -1,0 +1,67 @@
+ghost use Rattle.std.specs.Prelude.{◌≡◌, ℕ, ◌<◌, ◌≤◌, List, [], length, Option, Some, IsSome, IfOk, OnOk, OnErr};
+ghost use Rattle.std.specs.Io.{ReadsAtMost};
+ghost use Rattle.std.specs.Io.KnownBytes.{ReadConsumes};
+ghost use Rattle.hilti_outside.specs.Faults.{HasCause, Rose};
+ghost use Rattle.hilti_outside.specs.Contents.{FileMap, Holds, content};
+
+use hilti_base::{Blob, NoMemory};
+use std::alloc::Global;
+
+/// A call to the outside failed. The count of faults of what was called says so too.
+#[derive(Clone, Copy, Debug, PartialEq, Eq)]
+pub struct Failed;
+
+/// Files that are opened by name and read from front to back, one at a time.
+pub trait Files {
+    /// What each name stands for, where that is told.
+    ghost files: { Self → Option FileMap };
+
+    /// The bytes of the current file that are still unread, none where no file is current; where that is told.
+    ghost rest: { Self → Option (List ℕ) };
+
+    /// How many calls failed. It stays at `u64::MAX` once it is there.
+    ghost faults: { Self → ℕ };
+
+    /// Makes the named file current, with all its bytes unread. A name that isn't among `files` is an empty file, if it
+    /// can be opened. After `Failed` no file is current.
+    fn open_file(&mut self, name: &[u8]) -> Result<(), Failed>
+        ensures files { files self.new ≡ files self.old }
+        ensures ok { OnOk result ((all : FileMap) → files self.old ≡ Some all → rest self.new ≡ Some (content all name.now)) }
+        ensures err { OnErr result (Holds (rest self.new) []) }
+        ensures cause { HasCause (faults self.old) (faults self.new) result };
+
+    /// Moves bytes of the current file to the front of `into`, and says how many: 0 exactly where none is left.
+    fn read(&mut self, into: &mut [u8]) -> Result<usize, Failed>
+        requires { 0 < length into.old }
+        ensures files { files self.new ≡ files self.old }
+        ensures count { ReadsAtMost result into.new }
+        ensures moved { ReadConsumes (rest self.old) (rest self.new) result into.new }
+        ensures cause { HasCause (faults self.old) (faults self.new) result };
+
+    /// Where the files are told, so are the bytes that are left.
+    ghost told: { (s : Self) (all : FileMap) → files s ≡ Some all → IsSome (rest s) };
+}
+
+/// Why a file wasn't read to its end.
+#[derive(Clone, Copy, Debug, PartialEq, Eq)]
+pub enum FileFault {
+    /// An opening or a read failed.
+    Failed,
+    /// The file has more bytes than were asked for.
+    TooLong,
+    NoMemory,
+}
+
+/// The whole of a file of at most `limit` bytes.
+pub fn read_file<F: Files>(
+    alloc: Global,
+    files: &mut F,
+    name: &[u8],
+    limit: usize,
+) -> Result<Blob, FileFault>
+    ensures files { F.files files.new ≡ F.files files.old }
+    ensures whole { IfOk result (λ bytes. (all : FileMap) → F.files files.old ≡ Some all → bytes ≡ content all name.now) }
+    ensures within { IfOk result (λ bytes. length bytes ≤ limit) }
+    ensures too_long { result ≡ Err FileFault.TooLong → (all : FileMap) → F.files files.old ≡ Some all → limit < length (content all name.now) }
+    ensures failed { result ≡ Err FileFault.Failed → Rose (F.faults files.old) (F.faults files.new) }
+    ensures heard { result ≢ Err FileFault.Failed → F.faults files.new ≡ F.faults files.old }
