@@ -1,2 +1,4 @@
 pub mod Contents
+pub mod Fakes
 pub mod Faults
+pub mod Shelf

@@ -1,11 +1,18 @@
-ghost use Rattle.std.specs.Prelude.{◌≡◌, ℕ, ◌<◌, ◌≤◌, List, [], length, Option, Some, IsSome, IfOk, OnOk, OnErr};
+ghost use Rattle.std.specs.Prelude.{◌≡◌, ◌≢◌, ℕ, ◌<◌, ◌≤◌, List, [], length, Option, Some, IsSome, IfOk, OnOk, OnErr};
 ghost use Rattle.std.specs.Io.{ReadsAtMost};
 ghost use Rattle.std.specs.Io.KnownBytes.{ReadConsumes};
 ghost use Rattle.hilti_outside.specs.Faults.{HasCause, Rose};
 ghost use Rattle.hilti_outside.specs.Contents.{FileMap, Holds, content};
+ghost use Rattle.hilti_outside.specs.declared.files.FileFault.TheVariants as faults;
 
 use hilti_base::{Blob, NoMemory};
 use std::alloc::Global;
+
+/// How many bytes `read_file` asks for at a time.
+const PIECE: usize = 16384;
+
+/// How many times a call to the system that was interrupted is tried again.
+pub const RETRIES: u32 = 16;
 
 /// A call to the outside failed. The count of faults of what was called says so too.
 #[derive(Clone, Copy, Debug, PartialEq, Eq)]
@@ -52,6 +59,22 @@ pub enum FileFault {
     NoMemory,
 }
 
+impl From<Failed> for FileFault {
+    ghost from_gives = { λ _ fault. fault ≡ faults.Failed };
+
+    fn from(_error: Failed) -> FileFault {
+        FileFault::Failed
+    }
+}
+
+impl From<NoMemory> for FileFault {
+    ghost from_gives = { λ _ fault. fault ≡ faults.NoMemory };
+
+    fn from(_error: NoMemory) -> FileFault {
+        FileFault::NoMemory
+    }
+}
+
 /// The whole of a file of at most `limit` bytes.
 pub fn read_file<F: Files>(
     alloc: Global,
@@ -65,3 +88,18 @@ pub fn read_file<F: Files>(
     ensures too_long { result ≡ Err FileFault.TooLong → (all : FileMap) → F.files files.old ≡ Some all → limit < length (content all name.now) }
     ensures failed { result ≡ Err FileFault.Failed → Rose (F.faults files.old) (F.faults files.new) }
     ensures heard { result ≢ Err FileFault.Failed → F.faults files.new ≡ F.faults files.old }
+{
+    files.open_file(name)?;
+    let mut bytes = Blob::new(alloc);
+    let mut piece = [0; PIECE];
+    'pieces: loop {
+        let count = files.read(&mut piece)?;
+        if count == 0 {
+            return Ok(bytes);
+        }
+        if limit - bytes.len() < count {
+            return Err(FileFault::TooLong);
+        }
+        bytes.append(&piece[..count])?;
+    }
+}

@@ -2,8 +2,25 @@
 //! call did and when it may fail, with fakes in memory for tests and the real ones of the system.
 #![tactic(auto)]
 
+mod count;
+mod disk_files;
 mod files;
+mod mem_files;
+mod mem_sink;
+mod out_sink;
+mod plan;
+mod shelf;
 mod sink;
+mod sure_files;
+mod sure_sink;
+#[cfg(test)]
+mod tests;
 
-pub use files::{Files, Failed, FileFault, read_file};
+pub use disk_files::DiskFiles;
+pub use files::{Failed, FileFault, Files, read_file};
+pub use mem_files::MemFiles;
+pub use mem_sink::MemSink;
+pub use out_sink::OutSink;
 pub use sink::{Sink, write_all};
+pub use sure_files::SureFiles;
+pub use sure_sink::SureSink;

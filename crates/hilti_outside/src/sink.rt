@@ -28,3 +28,11 @@ pub fn write_all<S: Sink>(sink: &mut S, text: &[u8]) -> Result<(), Failed>
     ensures ok { OnOk result (Grows (S.written sink.old) (S.written sink.new) text.now) }
     ensures err { OnErr result (GrowsByFront (S.written sink.old) (S.written sink.new) text.now) }
     ensures cause { HasCause (S.faults sink.old) (S.faults sink.new) result }
+{
+    let mut rest = text;
+    'pieces: while !rest.is_empty() {
+        let count = sink.write(rest)?;
+        rest = &rest[count..];
+    }
+    Ok(())
+}

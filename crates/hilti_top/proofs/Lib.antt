@@ -1,0 +1,6 @@
+mod Bytes
+mod Digits
+mod Lines
+mod Named
+mod Operands
+mod ThreeWords

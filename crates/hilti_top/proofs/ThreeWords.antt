@@ -1,0 +1,10 @@
+-- A list of three items.
+use Rattle.std.proofs.Common.{◌≡◌, ℕ, ◌<◌, ◌≤◌, List, [], ◌∷◌, length, get_or, sym, arith}
+
+pub three_items : {A : Type 0} (xs : List A) (a b c : A) → 3 ≤ length xs → length xs < 4
+    → a ≡ get_or xs 0 a → b ≡ get_or xs 1 b → c ≡ get_or xs 2 c → xs ≡ a ∷ b ∷ c ∷ []
+three_items [] a b c least most first second third = absurd (omega arith)
+three_items (x ∷ []) a b c least most first second third = absurd (omega arith)
+three_items (x ∷ y ∷ []) a b c least most first second third = absurd (omega arith)
+three_items (x ∷ y ∷ z ∷ []) a b c least most first second third = cc
+three_items (x ∷ y ∷ z ∷ w ∷ ws) a b c least most first second third = absurd (omega arith)

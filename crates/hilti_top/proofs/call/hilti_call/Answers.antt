@@ -1,0 +1,36 @@
+use Rattle.std.proofs.Common.{◌≡◌, sym, ◌∙◌, ap, subst, refl, rules}
+use Rattle.hilti_outside.specs.Contents.{Grows, GrowsByFront}
+use Rattle.hilti_top.specs.Report.{report}
+use Rattle.hilti_top.proofs.Named.{module_from, capture_from, no_capture_from}
+use Rattle.hilti_top.proofs.call.hilti_call.Goals as goal
+
+pub returns-in-Err-NotYet-read_capture-clause-bad_capture :
+    goal.returns-in-Err-NotYet-read_capture-clause-bad_capture
+returns-in-Err-NotYet-read_capture-clause-bad_capture g c = λ at code is.
+    no_capture_from (g.F.Files.files c.args.files.now) (g.F.Files.files c.read_module.new.files) c.args.words.now
+    c.in-Some.one.capture.now c.in-Some.one.module.now c.in-Some.ensures.command c.in-Ok.ensures.files
+    (rw c.in-Err-NotYet-read_capture.field-0-is at c.in-Err-NotYet-read_capture.ensures.not_yet refl)
+
+pub returns-in-Ok-write_all-clause-done : goal.returns-in-Ok-write_all-clause-done
+returns-in-Ok-write_all-clause-done g c = λ is.
+    let lines = module_from (g.F.Files.files c.args.files.now) c.args.words.now c.in-Some.one.capture.now c.in-Some.one.module.now
+        c.in-Ok.lines c.in-Some.ensures.command c.in-Ok.ensures.lines in
+    let packets = capture_from (g.F.Files.files c.args.files.now) (g.F.Files.files c.read_module.new.files) c.args.words.now
+        c.in-Some.one.capture.now c.in-Some.one.module.now c.in-Ok-read_capture.packets c.in-Some.ensures.command
+        c.in-Ok.ensures.files c.in-Ok-read_capture.ensures.packets in
+    let grows = c.in-Ok-write_all.ensures.ok in
+    (c.in-Ok.lines, c.in-Ok-read_capture.packets, lines, packets,
+      subst (λ text. Grows (g.S.Sink.written c.args.sink.now) (g.S.Sink.written c.write_all.new.sink) text)
+      (c.bytes.ensures ∙ c.in-Ok-write_report.ensures) grows)
+
+pub returns-clause-write_fault : goal.returns-clause-write_fault
+returns-clause-write_fault g c = λ is.
+    let lines = module_from (g.F.Files.files c.args.files.now) c.args.words.now c.in-Some.one.capture.now c.in-Some.one.module.now
+        c.in-Ok.lines c.in-Some.ensures.command c.in-Ok.ensures.lines in
+    let packets = capture_from (g.F.Files.files c.args.files.now) (g.F.Files.files c.read_module.new.files) c.args.words.now
+        c.in-Some.one.capture.now c.in-Some.one.module.now c.in-Ok-read_capture.packets c.in-Some.ensures.command
+        c.in-Ok.ensures.files c.in-Ok-read_capture.ensures.packets in
+    let grows = c.in-Err.ensures.err in
+    (c.in-Ok.lines, c.in-Ok-read_capture.packets, lines, packets,
+      subst (λ text. GrowsByFront (g.S.Sink.written c.args.sink.now) (g.S.Sink.written c.write_all.new.sink) text)
+      (c.bytes.ensures ∙ c.in-Ok-write_report.ensures) grows)

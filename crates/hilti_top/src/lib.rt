@@ -1,0 +1,15 @@
+//! The commands of the program, from the words of the command line to the bytes that are written.
+#![tactic(auto)]
+
+mod call;
+mod input;
+pub mod laws;
+mod module_text;
+mod report;
+mod status;
+mod text;
+mod words;
+
+pub use call::hilti_call;
+pub use module_text::Parameter;
+pub use status::Status;
