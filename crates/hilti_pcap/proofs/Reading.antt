@@ -12,9 +12,6 @@ pub record IsReadSoFar (packets : List Packet) (records rest : List ℕ) : Type 
   pub only : (all : List Packet) → AreRecords all records → (more : List Packet) × (all ≡ packets ++ more) × AreRecords more rest
   pub few : length packets ≤ 1000000
 
-pub at_first : (records : List ℕ) → IsReadSoFar [] records records
-at_first records = record { onward = λ more h. h; only = λ all h. (all, refl, h); few = omega arith }
-
 not_empty : (front rest : List ℕ) (packet : Packet) → [] ≡ front ++ rest → IsRecord front packet → ⊥
 not_empty front rest packet e is = absurd (omega (arith, ap length e, length-append front rest, record_length front packet is))
 
@@ -62,13 +59,6 @@ no_record packets records left some h none all r =
     let before = h.only all r in
     let next = one_to_come left before.0 some before.2 in
     none next.0 next.1 next.2 next.5 next.6
-
-pub too_many : (packets : List Packet) (records left : List ℕ) → left ≢ [] → length packets ≡ 1000000 → IsReadSoFar packets records left
-    → (all : List Packet) → AreRecords all records → ¬ (length all ≤ 1000000)
-too_many packets records left some full h all r few =
-    let before = h.only all r in
-    let next = one_to_come left before.0 some before.2 in
-    absurd (omega (arith, full, few, ap length before.1, length-append packets before.0, ap length next.4))
 
 -- two readings of the same records agree
 one_list : (records : List ℕ) (packets others : List Packet) → AreRecords packets records → AreRecords others records → packets ≡ others

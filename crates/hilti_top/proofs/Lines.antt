@@ -39,7 +39,7 @@ line_is operands rest = append_assoc (codes "  print" ++ flat_map operand operan
 same_line : (p q : List Parameter) (a b : List ℕ) → print_line p ++ a ≡ print_line q ++ b → (p ≡ q) × (a ≡ b)
 same_line p q a b e =
     let joined : codes "  print" ++ (flat_map operand p ++ 10 ∷ a) ≡ codes "  print" ++ (flat_map operand q ++ 10 ∷ b) =
-        sym (line_is p a) ∙ e ∙ line_is q b in
+    sym (line_is p a) ∙ e ∙ line_is q b in
     same_operands p q a b (ap (drop 7) joined)
 
 -- the foot of a module begins as no print line does
@@ -57,11 +57,13 @@ next_only : (rest after : List ℕ) (operands : List Parameter) → rest ≡ pri
     → (more : List (List Parameter)) → AreLines rest more → (others : List (List Parameter)) × AreLines after others
 next_only rest after operands is [] are =
     absurd (foot_is_no_line operands [] after (simp append-nil (sym are.spelled ∙ is)))
-next_only rest after operands is (line ∷ lines) are =
-    (lines, record {
-      spelled = (same_line operands line after (flat_map print_line lines ++ foot) (sym is ∙ first_line rest line lines are.spelled)).1;
-      short = are.short.1;
-    })
+next_only rest after operands is (line ∷ lines) are = (
+  lines,
+  record {
+    spelled = (same_line operands line after (flat_map print_line lines ++ foot) (sym is ∙ first_line rest line lines are.spelled)).1;
+    short = are.short.1;
+  },
+)
 
 short_push : (read : List (List Parameter)) (operands : List Parameter) → AllByRecursion AreOperands read → AreOperands operands
     → AllByRecursion AreOperands (read ++ operands ∷ [])
@@ -74,8 +76,8 @@ follows_next text read rest after operands follows begins = record {
   spelled = follows.spelled ∙ ap (λ r. flat_map print_line read ++ r) begins.spelled ∙ rejoined;
   short = short_push read operands follows.short begins.short;
   only = λ lines are.
-    let found = follows.only lines are in
-    next_only rest after operands begins.spelled found.0 found.1;
+      let found = follows.only lines are in
+      next_only rest after operands begins.spelled found.0 found.1;
 }
   where
     rejoined : flat_map print_line read ++ (print_line operands ++ after) ≡ flat_map print_line (read ++ operands ∷ []) ++ after
@@ -112,7 +114,7 @@ pub operands_begin : (text behind : List ℕ) (operands : List Parameter) (rest 
     → BeginsWithLine text operands rest → BeginsWithOperands behind operands rest
 operands_begin text behind operands rest is begins =
     let joined : codes "  print" ++ behind ≡ codes "  print" ++ (flat_map operand operands ++ 10 ∷ rest) =
-        sym is ∙ begins.spelled ∙ line_is operands rest in
+    sym is ∙ begins.spelled ∙ line_is operands rest in
     record { spelled = ap (drop 7) joined; short = begins.short }
 
 same_lines : (lines others : List (List Parameter)) → flat_map print_line lines ++ foot ≡ flat_map print_line others ++ foot → lines ≡ others
@@ -123,7 +125,7 @@ same_lines (line ∷ lines) [] e =
     absurd (foot_is_no_line line [] (flat_map print_line lines ++ foot) (first_line foot line lines (sym e)))
 same_lines (line ∷ lines) (other ∷ others) e =
     let found = same_line line other (flat_map print_line lines ++ foot) (flat_map print_line others ++ foot)
-        (sym (append_assoc (print_line line) (flat_map print_line lines) foot) ∙ e ∙ append_assoc (print_line other) (flat_map print_line others) foot) in
+    (sym (append_assoc (print_line line) (flat_map print_line lines) foot) ∙ e ∙ append_assoc (print_line other) (flat_map print_line others) foot) in
     let rest = same_lines lines others found.1 in
     ap (λ l. l ∷ lines) found.0 ∙ ap (λ ls. other ∷ ls) rest
 

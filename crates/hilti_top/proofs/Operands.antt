@@ -32,17 +32,19 @@ next_only : (read : List Parameter) (rest after behind : List ℕ) (p : Paramete
     → length read + length more ≤ 3 → rest ≡ flat_map operand more ++ 10 ∷ behind → rest ≡ operand p ++ after
     → (others : List Parameter) × (length (read ++ p ∷ []) + length others ≤ 3) × (after ≡ flat_map operand others ++ 10 ∷ behind)
 next_only read rest after behind p [] short goes is = absurd (no_end p behind after (sym goes ∙ is))
-next_only read rest after behind p (m ∷ more) short goes is =
-    (more, omega (arith, length-append read (p ∷ [])),
-      same_operand p m after (flat_map operand more ++ 10 ∷ behind) (sym is ∙ goes ∙ append_assoc (operand m) (flat_map operand more) (10 ∷ behind)))
+next_only read rest after behind p (m ∷ more) short goes is = (
+  more,
+  omega (arith, length-append read (p ∷ [])),
+  same_operand p m after (flat_map operand more ++ 10 ∷ behind) (sym is ∙ goes ∙ append_assoc (operand m) (flat_map operand more) (10 ∷ behind)),
+)
 
 pub follows_next : (text : List ℕ) (read : List Parameter) (rest after : List ℕ) (p : Parameter)
     → Follows text read rest → rest ≡ operand p ++ after → Follows text (read ++ p ∷ []) after
 follows_next text read rest after p follows is = record {
   spelled = follows.spelled ∙ ap (λ r. flat_map operand read ++ r) is ∙ rejoined;
   only = λ operands behind begins.
-    let found = follows.only operands behind begins in
-    next_only read rest after behind p found.0 found.1 found.2 is;
+      let found = follows.only operands behind begins in
+      next_only read rest after behind p found.0 found.1 found.2 is;
 }
   where
     rejoined : flat_map operand read ++ (operand p ++ after) ≡ flat_map operand (read ++ p ∷ []) ++ after

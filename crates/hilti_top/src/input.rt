@@ -13,6 +13,7 @@ use hilti_pcap::{LeFault, Packets, read_le};
 use std::alloc::Global;
 
 const MODULE_BYTES: usize = 1_048_576;
+
 const CAPTURE_BYTES: usize = 1_073_741_824;
 
 /// Why an input isn't accepted.

@@ -7,6 +7,8 @@ pub mod laws;
 mod module_text;
 mod report;
 mod status;
+#[cfg(test)]
+mod tests;
 mod text;
 mod words;
 

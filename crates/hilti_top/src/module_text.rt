@@ -42,8 +42,11 @@ impl From<NoMemory> for ModuleFault {
 }
 
 const MODULE_BYTES: usize = 1_048_576;
+
 const HEAD: &[u8] = b"module Main\nvoid packet(time t, bytes d) {\n";
+
 const FOOT: &[u8] = b"  return.void\n}\n";
+
 const PRINT: &[u8] = b"  print";
 
 /// An operand at the front of a text, and the text behind it.
@@ -81,7 +84,10 @@ fn read_operands(alloc: Global, text: &[u8]) -> Result<Option<Line<'_>>, NoMemor
     let mut rest = text;
     for _count in 0..4u8 {
         if let Some(after) = strip(rest, b"\n") {
-            return Ok(Some(Line { operands, rest: after }));
+            return Ok(Some(Line {
+                operands,
+                rest: after,
+            }));
         }
         let Some((operand, after)) = read_operand(rest) else {
             return Ok(None);

@@ -20,11 +20,7 @@ fn append_value(out: &mut Blob, packet: &Packet, parameter: Parameter) -> Result
 }
 
 /// The values that one print line prints, with one space between them.
-fn append_values(
-    out: &mut Blob,
-    packet: &Packet,
-    operands: &[Parameter],
-) -> Result<(), NoMemory>
+fn append_values(out: &mut Blob, packet: &Packet, operands: &[Parameter]) -> Result<(), NoMemory>
     ensures { OnOk result (out.new ≡ out.old ++ join_by (value_text packet.now) (codes " ") operands.now) }
 {
     let Some((first, others)) = operands.split_first() else {
@@ -85,11 +81,7 @@ fn append_total(out: &mut Blob, calls: u64) -> Result<(), NoMemory>
 }
 
 /// The report of the calls of `packet` for all packets.
-pub fn write_report(
-    alloc: Global,
-    lines: &PrintLines,
-    packets: &Packets,
-) -> Result<Blob, NoMemory>
+pub fn write_report(alloc: Global, lines: &PrintLines, packets: &Packets) -> Result<Blob, NoMemory>
     ensures { IfOk result (λ text. text ≡ report lines.now packets.now) }
 {
     let mut out = Blob::new(alloc);

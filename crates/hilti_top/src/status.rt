@@ -45,7 +45,10 @@ impl Status {
     {
         match self {
             Status::Done => Ok(Blob::new(alloc)),
-            Status::Usage => Blob::of(alloc, b"hilti: usage: check, one, run or gen; see the manual\n"),
+            Status::Usage => Blob::of(
+                alloc,
+                b"hilti: usage: check, one, run or gen; see the manual\n",
+            ),
             Status::ReadFault => Blob::of(alloc, b"hilti: cannot read\n"),
             Status::BadModule { place, code } => bad_module_text(alloc, place, *code),
             Status::BadCapture { at, code } => bad_capture_text(alloc, *at, *code),

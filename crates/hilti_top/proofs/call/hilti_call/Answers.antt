@@ -14,23 +14,31 @@ returns-in-Err-NotYet-read_capture-clause-bad_capture g c = λ at code is.
 pub returns-in-Ok-write_all-clause-done : goal.returns-in-Ok-write_all-clause-done
 returns-in-Ok-write_all-clause-done g c = λ is.
     let lines = module_from (g.F.Files.files c.args.files.now) c.args.words.now c.in-Some.one.capture.now c.in-Some.one.module.now
-        c.in-Ok.lines c.in-Some.ensures.command c.in-Ok.ensures.lines in
+    c.in-Ok.lines c.in-Some.ensures.command c.in-Ok.ensures.lines in
     let packets = capture_from (g.F.Files.files c.args.files.now) (g.F.Files.files c.read_module.new.files) c.args.words.now
-        c.in-Some.one.capture.now c.in-Some.one.module.now c.in-Ok-read_capture.packets c.in-Some.ensures.command
-        c.in-Ok.ensures.files c.in-Ok-read_capture.ensures.packets in
-    let grows = c.in-Ok-write_all.ensures.ok in
-    (c.in-Ok.lines, c.in-Ok-read_capture.packets, lines, packets,
+    c.in-Some.one.capture.now c.in-Some.one.module.now c.in-Ok-read_capture.packets c.in-Some.ensures.command
+    c.in-Ok.ensures.files c.in-Ok-read_capture.ensures.packets in
+    let grows = c.in-Ok-write_all.ensures.ok in (
+      c.in-Ok.lines,
+      c.in-Ok-read_capture.packets,
+      lines,
+      packets,
       subst (λ text. Grows (g.S.Sink.written c.args.sink.now) (g.S.Sink.written c.write_all.new.sink) text)
-      (c.bytes.ensures ∙ c.in-Ok-write_report.ensures) grows)
+          (c.bytes.ensures ∙ c.in-Ok-write_report.ensures) grows,
+    )
 
 pub returns-clause-write_fault : goal.returns-clause-write_fault
 returns-clause-write_fault g c = λ is.
     let lines = module_from (g.F.Files.files c.args.files.now) c.args.words.now c.in-Some.one.capture.now c.in-Some.one.module.now
-        c.in-Ok.lines c.in-Some.ensures.command c.in-Ok.ensures.lines in
+    c.in-Ok.lines c.in-Some.ensures.command c.in-Ok.ensures.lines in
     let packets = capture_from (g.F.Files.files c.args.files.now) (g.F.Files.files c.read_module.new.files) c.args.words.now
-        c.in-Some.one.capture.now c.in-Some.one.module.now c.in-Ok-read_capture.packets c.in-Some.ensures.command
-        c.in-Ok.ensures.files c.in-Ok-read_capture.ensures.packets in
-    let grows = c.in-Err.ensures.err in
-    (c.in-Ok.lines, c.in-Ok-read_capture.packets, lines, packets,
+    c.in-Some.one.capture.now c.in-Some.one.module.now c.in-Ok-read_capture.packets c.in-Some.ensures.command
+    c.in-Ok.ensures.files c.in-Ok-read_capture.ensures.packets in
+    let grows = c.in-Err.ensures.err in (
+      c.in-Ok.lines,
+      c.in-Ok-read_capture.packets,
+      lines,
+      packets,
       subst (λ text. GrowsByFront (g.S.Sink.written c.args.sink.now) (g.S.Sink.written c.write_all.new.sink) text)
-      (c.bytes.ensures ∙ c.in-Ok-write_report.ensures) grows)
+          (c.bytes.ensures ∙ c.in-Ok-write_report.ensures) grows,
+    )

@@ -11,7 +11,7 @@ pub loop-count-preserved : goal.loop-count-preserved
 loop-count-preserved c =
     let pushed = c.in_ok-push.ensures.ok in
     let next = follows_next c.args.text.now c.loop-count.operands c.loop-count.rest.now c.in-Some-read_operand.after.now
-        c.in-Some-read_operand.operand c.loop-count.invariant.follows c.in-Some-read_operand.ensures in
+    c.in-Some-read_operand.operand c.loop-count.invariant.follows c.in-Some-read_operand.ensures in
     record {
       follows = rw pushed next;
       counted = rw pushed (omega (arith, length-append c.loop-count.operands (c.in-Some-read_operand.operand ∷ []), c.loop-count.invariant.counted));
