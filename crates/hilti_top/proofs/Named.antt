@@ -1,15 +1,14 @@
 -- The inputs that the words name, from what is known of files by their names.
-use Rattle.std.proofs.Common.{◌≡◌, ℕ, List, [], ◌∷◌, Option, Some, refl, sym, ◌∙◌, ap, subst, slice_index_or}
+use Rattle.std.proofs.Common.{◌≡◌, ℕ, List, [], Option, Some, refl, sym, ◌∙◌, ap, subst, slice_index_or}
 use Rattle.hilti_outside.specs.Contents.{FileMap, content}
 use Rattle.hilti_pcap.specs.declared.packet.Packet.{Packet}
 use Rattle.hilti_pcap.specs.declared.read.LeFault.{LeFault}
 use Rattle.hilti_pcap.specs.declared.read.LeFault.TheVariants as capture_faults
 use Rattle.hilti_pcap.specs.Capture.{HasPackets}
 use Rattle.hilti_top.specs.declared.module_text.Parameter.{Parameter}
-use Rattle.hilti_top.specs.declared.input.InputFault.{InputFault}
 use Rattle.hilti_top.specs.declared.input.InputFault.TheVariants.{NotYet}
 use Rattle.hilti_top.specs.InputFaults.{of_capture}
-use Rattle.hilti_top.specs.Inputs.{capture_of, module_of, IsModuleOf, IsCaptureOf, IsNoCapture}
+use Rattle.hilti_top.specs.Inputs.{IsModuleOf, IsCaptureOf, IsNoCapture}
 use Rattle.hilti_top.specs.ModuleText.{IsModule}
 use Rattle.hilti_top.specs.Words.{IsOne}
 

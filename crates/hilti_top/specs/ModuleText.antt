@@ -1,5 +1,5 @@
 -- The form of a module that is accepted today.
-use Rattle.std.specs.Prelude.{◌≡◌, ℕ, ◌≤◌, List, [], ◌∷◌, ◌++◌, length, codes}
+use Rattle.std.specs.Prelude.{◌≡◌, ℕ, ◌≤◌, List, ◌∷◌, ◌++◌, length, codes}
 use Rattle.std.specs.List.{flat_map, AllByRecursion}
 use Rattle.hilti_top.specs.declared.module_text.Parameter.{Parameter}
 use Rattle.hilti_top.specs.declared.module_text.Parameter.TheVariants.{Time, Bytes}

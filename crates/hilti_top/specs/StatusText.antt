@@ -1,7 +1,6 @@
 -- The numbers of statuses, and their texts.
 use Rattle.std.specs.Prelude.{ℕ, List, [], ◌++◌, codes}
 use Rattle.std.specs.Fmt.{decimal}
-use Rattle.hilti_base.specs.declared.names.Place.{Place}
 use Rattle.hilti_top.specs.declared.status.Status.{Status}
 use Rattle.hilti_top.specs.declared.status.Status.TheVariants.{Done, Usage, ReadFault, BadModule, BadCapture, WriteFault, NoMemory}
 

@@ -1,6 +1,5 @@
-use Rattle.std.proofs.Common.{◌≡◌, sym, ◌∙◌, ap, subst, refl, rules}
+use Rattle.std.proofs.Common.{◌∙◌, subst, refl}
 use Rattle.hilti_outside.specs.Contents.{Grows, GrowsByFront}
-use Rattle.hilti_top.specs.Report.{report}
 use Rattle.hilti_top.proofs.Named.{module_from, capture_from, no_capture_from}
 use Rattle.hilti_top.proofs.call.hilti_call.Goals as goal
 

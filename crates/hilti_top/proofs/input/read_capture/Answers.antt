@@ -1,8 +1,6 @@
 use Rattle.std.proofs.Common.{◌≡◌, Err, sym, ◌∙◌, ap, subst}
 use Rattle.std.proofs.lemmas.Result.{err_from_is_err_and}
-use Rattle.hilti_outside.specs.Contents.{content}
 use Rattle.hilti_pcap.specs.Capture.{HasPackets}
-use Rattle.hilti_top.specs.declared.input.InputFault.{InputFault}
 use Rattle.hilti_top.specs.declared.input.InputFault.TheVariants.{NotYet}
 use Rattle.hilti_top.specs.InputFaults.{of_capture}
 use Rattle.hilti_top.proofs.Named.{capture_not_yet}

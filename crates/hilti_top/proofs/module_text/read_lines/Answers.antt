@@ -1,7 +1,6 @@
-use Rattle.std.proofs.Common.{◌≡◌, ◌++◌, [], ◌∷◌, subst, sym, MatchOption}
 use Rattle.hilti_top.specs.ModuleText.{foot}
 use Rattle.hilti_top.proofs.Bytes.{differ, same}
-use Rattle.hilti_top.proofs.Lines.{Follows, follows_next, follows_neither, follows_foot}
+use Rattle.hilti_top.proofs.Lines.{follows_next, follows_neither, follows_foot}
 use Rattle.hilti_top.proofs.module_text.read_lines.Goals as goal
 
 pub returns-in_default-clause-not_yet : goal.returns-in_default-clause-not_yet

@@ -1,4 +1,4 @@
-use Rattle.std.proofs.Common.{◌≡◌, length}
+use Rattle.std.proofs.Common.{length}
 use Rattle.hilti_top.proofs.Lines.{Follows}
 use Rattle.hilti_top.proofs.module_text.read_lines.Given as goal
 

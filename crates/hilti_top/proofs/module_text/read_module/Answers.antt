@@ -1,5 +1,5 @@
 use Rattle.std.proofs.Common.{◌++◌, flat_map, ◌∙◌, append_assoc}
-use Rattle.hilti_top.specs.ModuleText.{IsModule, head, foot, print_line}
+use Rattle.hilti_top.specs.ModuleText.{head, foot, print_line}
 use Rattle.hilti_top.proofs.module_text.read_module.Goals as goal
 
 pub returns-in-None-clause-not_yet : goal.returns-in-None-clause-not_yet

@@ -1,5 +1,5 @@
-use Rattle.std.proofs.Common.{◌≡◌, ◌++◌, [], ◌∷◌, length, arith, length-append, subst}
-use Rattle.hilti_top.proofs.Operands.{Follows, follows_next, follows_neither}
+use Rattle.std.proofs.Common.{[], ◌∷◌, arith, length-append}
+use Rattle.hilti_top.proofs.Operands.{follows_next, follows_neither}
 use Rattle.hilti_top.proofs.module_text.read_operands.Goals as goal
 
 pub returns-in_default-read_operand : goal.returns-in_default-read_operand

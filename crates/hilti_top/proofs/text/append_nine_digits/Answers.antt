@@ -1,4 +1,4 @@
-use Rattle.std.proofs.Common.{◌≡◌, ◌≤◌, length, decimal, arith, rules}
+use Rattle.std.proofs.Common.{length, arith, rules}
 use Rattle.std.proofs.lemmas.Grind.{common_steps}
 use Rattle.hilti_top.proofs.Digits.{nine_fit, zeros_left}
 use Rattle.hilti_top.proofs.text.append_nine_digits.Goals as goal

@@ -1,6 +1,4 @@
-use Rattle.std.proofs.Common.{◌≡◌, sym, subst, rules, List, ℕ, [], ◌∷◌, codes}
-use Rattle.std.proofs.lemmas.Slice.Eq.{slice_eq-Decides}
-use Rattle.std.proofs.lemmas.Bool.Decides.{Decides-eqb}
+use Rattle.std.proofs.Common.{◌≡◌, rules, codes}
 use Rattle.hilti_top.proofs.ThreeWords.{three_items}
 use Rattle.hilti_top.proofs.words.read_words.Goals as goal
 
