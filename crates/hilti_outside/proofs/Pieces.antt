@@ -1,8 +1,7 @@
 -- Pieces that are read or written one after another.
-use Rattle.std.proofs.Common.{◌≡◌, ◌≢◌, ℕ, ◌+◌, ◌-◌, ◌<◌, ◌≤◌, List, [], ◌∷◌, ◌++◌, length, take, drop, Option, Some, None, refl, sym, ◌∙◌, ap, subst, arith, append_assoc, append-nil, length-append, length-drop}
+use Rattle.std.proofs.Common.{◌≡◌, ℕ, ◌-◌, List, ◌++◌, length, take, drop, Option, Some, None, ◌∙◌, ap, arith, append_assoc, length-drop}
 use Rattle.std.proofs.lemmas.List.{take_all, take-append-drop}
-use Rattle.std.specs.Io.KnownBytes.{Consumes, IsAtEnd}
-use Rattle.hilti_outside.specs.Contents.{Grows, GrowsByFront}
+use Rattle.hilti_outside.specs.Contents.{Grows}
 
 -- what was read, and then what is left, is all
 abbrev pub Leaves : List ℕ → Option (List ℕ) → List ℕ → Type 0

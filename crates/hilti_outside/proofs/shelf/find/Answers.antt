@@ -1,5 +1,5 @@
 -- Each entry stands for its name from then on.
-use Rattle.std.proofs.Common.{◌≡◌, ap, sym, ◌∙◌, true, false, nat_eq}
+use Rattle.std.proofs.Common.{◌≡◌, ap, ◌∙◌, nat_eq}
 use Rattle.std.specs.Cmp.Lexicographic.{pointwise}
 use Rattle.hilti_outside.proofs.Found.{none_below, found_here, found_before}
 use Rattle.hilti_outside.proofs.shelf.find.Goals as goal
