@@ -1,5 +1,5 @@
 use super::*;
-use hilti_base::{Blob, Names, NoMemory, Numbers, Place};
+use hilti_base::{Blob, Limits, Names, NoMemory, Numbers, Place};
 use hilti_outside::{MemFiles, MemSink};
 use std::alloc::{AllocError, Global};
 use std::test::Fail;
@@ -212,5 +212,20 @@ fn says_how_it_ended(rt: HostRuntime) -> Result<(), Fail> {
         assert_eq!(rt; status.number(), number);
         assert_eq!(rt; status.text(alloc)?.bytes(), text);
     }
+    Ok(())
+}
+
+#[test]
+fn collections_and_limits(rt: HostRuntime) -> Result<(), Fail> {
+    let alloc = rt.alloc();
+    let names = words(alloc, &[b"one", b"two"])?;
+    assert_eq!(rt; names.get(2).is_none(), true);
+    for (at, text) in [b"one".as_slice(), b"two".as_slice()].iter().enumerate() {
+        let name = names.get(at).ok_or("no name")?.copy()?;
+        assert_eq!(rt; name.bytes(), *text);
+    }
+    assert_eq!(rt; names.into_vec().len(), 2);
+    assert_eq!(rt; Limits::new(1, 100_000_000, 64).is_some(), true);
+    assert_eq!(rt; Limits::new(1, 100_000_001, 64).is_none(), true);
     Ok(())
 }
