@@ -15,6 +15,38 @@ shelved_code =
     code_by (FileMap × List ℕ) (coded× (map.code (coded_list coded_ℕ) (coded_list coded_ℕ)) (coded_list coded_ℕ))
     (λ s. (s.files, s.rest)) (λ p. record { files = p.0; rest = p.1 }) (λ _. refl)
 
+-- files whose calls fail as planned: by their numbers, where `calls` were made and `faults` failed, and a read gives at
+-- most a chunk
+pub record PlannedFiles : Type 0 where
+  pub files : FileMap
+  pub rest : List ℕ
+  pub fails : List ℕ
+  pub calls : ℕ
+  pub faults : ℕ
+  pub chunk : ℕ
+
+-- it is stored as the tuple of its fields
+abbrev pub planned_files_code : Coded PlannedFiles
+planned_files_code =
+    code_by (Shelved × (List ℕ × (ℕ × (ℕ × ℕ)))) (coded× shelved_code (coded× (coded_list coded_ℕ) (coded× coded_ℕ (coded× coded_ℕ coded_ℕ))))
+    (λ s. (record { files = s.files; rest = s.rest }, (s.fails, (s.calls, (s.faults, s.chunk)))))
+    (λ p. record { files = p.0.files; rest = p.0.rest; fails = p.1.0; calls = p.1.1.0; faults = p.1.1.1.0; chunk = p.1.1.1.1 }) (λ _. refl)
+
+-- a sink whose calls fail as planned: a write takes at most a chunk, and no more than there is room for
+pub record PlannedSink : Type 0 where
+  pub written : List ℕ
+  pub room : ℕ
+  pub fails : List ℕ
+  pub calls : ℕ
+  pub faults : ℕ
+  pub chunk : ℕ
+
+-- what a sink that never fails keeps, the room that it has left, and how many bytes it took and didn't keep
+pub record KeptBytes : Type 0 where
+  pub kept : List ℕ
+  pub room : ℕ
+  pub lost : ℕ
+
 -- one more, at the end of a `u64` no more
 abbrev pub counted : ℕ → ℕ
 counted n = min (n + 1) (2 ^ 64 - 1)

@@ -6,6 +6,7 @@ ghost use Rattle.hilti_outside.specs.Fakes.{counted};
 use crate::count::one_more;
 use crate::files::{Failed, Files, RETRIES};
 use std::io::{ErrorKind, Read};
+use std::marker::Model;
 use std::{fs, rt};
 
 /// Files of the system. A name is a path in UTF-8, and another one can't be opened. A call that is interrupted is
@@ -17,10 +18,18 @@ pub struct DiskFiles<R: rt::Files> {
     faults: u64,
 }
 
+impl<R: rt::Files> Model for DiskFiles<R> {
+    ghost use Rattle.std.specs.Prelude.{ℕ};
+
+    ghost Value = { ℕ };
+
+    ghost view = { λ a. a.faults };
+}
+
 impl<R: rt::Files> DiskFiles<R> {
     /// The files of the system, as a `main` has it: `DiskFiles::new(&rt)`.
     pub fn new(system: R) -> DiskFiles<R>
-        ensures { result.faults ≡ 0 }
+        ensures { result ≡ 0 }
     {
         DiskFiles {
             system,
@@ -35,13 +44,13 @@ impl<R: rt::Files> Files for DiskFiles<R> {
 
     ghost rest = { λ _. None };
 
-    ghost faults = { λ s. s.faults };
+    ghost faults = { λ faults. faults };
 
     ghost told = { λ s all e. Prim.cc };
 
     fn open_file(&mut self, name: &[u8]) -> Result<(), Failed>
-        ensures cause { HasCause self.old.faults self.new.faults result }
-        ensures faults { OnErr result (self.new.faults ≡ counted self.old.faults) }
+        ensures cause { HasCause self.old self.new result }
+        ensures faults { OnErr result (self.new ≡ counted self.old) }
     {
         self.current = opened(&self.system, name);
         if self.current.is_some() {
@@ -56,8 +65,8 @@ impl<R: rt::Files> Files for DiskFiles<R> {
     fn read(&mut self, into: &mut [u8]) -> Result<usize, Failed>
         requires { 0 < length into.old }
         ensures count { ReadsAtMost result into.new }
-        ensures cause { HasCause self.old.faults self.new.faults result }
-        ensures faults { OnErr result (self.new.faults ≡ counted self.old.faults) }
+        ensures cause { HasCause self.old self.new result }
+        ensures faults { OnErr result (self.new ≡ counted self.old) }
     {
         let Some(file) = &mut self.current else {
             return Ok(0);

@@ -12,6 +12,7 @@ use crate::plan::Plan;
 use crate::shelf::Shelf;
 use hilti_base::{NoMemory, Numbers};
 use std::alloc::Global;
+use std::marker::Model;
 
 /// Files in memory, whose calls fail as planned. Calls of `open_file` and `read` are counted together from 1.
 #[derive(Debug, Drop)]
@@ -19,16 +20,26 @@ pub struct MemFiles {
     shelf: Shelf,
     plan: Plan,
     chunk: usize,
-    ghost some: { 1 ≤ chunk },
+}
+
+impl Model for MemFiles {
+    ghost use Rattle.std.specs.Prelude.{◌≤◌};
+    ghost use Rattle.hilti_outside.specs.Fakes.{PlannedFiles, planned_files_code};
+
+    ghost Value = { PlannedFiles };
+
+    ghost coded = { planned_files_code };
+
+    ghost view = { λ a. record { files = a.shelf.files; rest = a.shelf.rest; fails = a.plan.fails; calls = a.plan.calls; faults = a.plan.faults; chunk = a.chunk } };
+
+    ghost invariant = { λ a. 1 ≤ a.chunk };
 }
 
 impl MemFiles {
     /// No files. A read will give at most `chunk` bytes, and the calls of the numbers in `fails` will fail.
     pub fn new(alloc: Global, chunk: usize, fails: Numbers) -> MemFiles
         requires { 1 ≤ chunk }
-        ensures shelf { result.shelf ≡ record { files = empty; rest = [] } }
-        ensures plan { result.plan ≡ record { fails = fails; calls = 0; faults = 0 } }
-        ensures chunk { result.chunk ≡ chunk }
+        ensures { result ≡ record { files = empty; rest = []; fails = fails; calls = 0; faults = 0; chunk = chunk } }
     {
         MemFiles {
             shelf: Shelf::new(alloc),
@@ -39,34 +50,32 @@ impl MemFiles {
 
     /// Adds or replaces a file. The current one stays as it is, and no call is counted.
     pub fn put_file(&mut self, name: &[u8], bytes: &[u8]) -> Result<(), NoMemory>
-        ensures ok { OnOk result (self.new.shelf ≡ record self.old.shelf { files = insert self.old.shelf.files name.now bytes.now }) }
-        ensures err { OnErr result (self.new.shelf ≡ self.old.shelf) }
-        ensures plan { self.new.plan ≡ self.old.plan }
-        ensures chunk { self.new.chunk ≡ self.old.chunk }
+        ensures ok { OnOk result (self.new ≡ record self.old { files = insert self.old.files name.now bytes.now }) }
+        ensures err { OnErr result (self.new ≡ self.old) }
     {
         self.shelf.put(name, bytes)
     }
 }
 
 impl Files for MemFiles {
-    ghost files = { λ s. Some s.shelf.files };
+    ghost files = { λ s. Some s.files };
 
-    ghost rest = { λ s. Some s.shelf.rest };
+    ghost rest = { λ s. Some s.rest };
 
-    ghost faults = { λ s. s.plan.faults };
+    ghost faults = { λ s. s.faults };
 
     ghost told = { λ s all e. refl };
 
     /// Fails exactly where the number of the call is planned to fail, or the name is absent.
     fn open_file(&mut self, name: &[u8]) -> Result<(), Failed>
-        ensures files { self.new.shelf.files ≡ self.old.shelf.files }
-        ensures ok { OnOk result (self.new.shelf.rest ≡ content self.old.shelf.files name.now) }
-        ensures err { OnErr result (self.new.shelf.rest ≡ []) }
-        ensures cause { HasCause self.old.plan.faults self.new.plan.faults result }
-        ensures calls { self.new.plan.calls ≡ counted self.old.plan.calls }
-        ensures fails { IsErr result ↔ (Contains self.old.plan.fails self.new.plan.calls ⊎ IsNone (get self.old.shelf.files name.now)) }
-        ensures faults { OnErr result (self.new.plan.faults ≡ counted self.old.plan.faults) }
-        ensures planned { self.new.plan.fails ≡ self.old.plan.fails }
+        ensures files { self.new.files ≡ self.old.files }
+        ensures ok { OnOk result (self.new.rest ≡ content self.old.files name.now) }
+        ensures err { OnErr result (self.new.rest ≡ []) }
+        ensures cause { HasCause self.old.faults self.new.faults result }
+        ensures calls { self.new.calls ≡ counted self.old.calls }
+        ensures fails { IsErr result ↔ (Contains self.old.fails self.new.calls ⊎ IsNone (get self.old.files name.now)) }
+        ensures faults { OnErr result (self.new.faults ≡ counted self.old.faults) }
+        ensures planned { self.new.fails ≡ self.old.fails }
         ensures chunk { self.new.chunk ≡ self.old.chunk }
     {
         if self.plan.fails_now() {
@@ -84,15 +93,15 @@ impl Files for MemFiles {
     /// is planned to fail.
     fn read(&mut self, into: &mut [u8]) -> Result<usize, Failed>
         requires { 0 < length into.old }
-        ensures files { self.new.shelf.files ≡ self.old.shelf.files }
+        ensures files { self.new.files ≡ self.old.files }
         ensures count { ReadsAtMost result into.new }
-        ensures moved { ReadConsumes (Some self.old.shelf.rest) (Some self.new.shelf.rest) result into.new }
-        ensures cause { HasCause self.old.plan.faults self.new.plan.faults result }
-        ensures most { IfOk result (λ n. n ≡ min (min self.old.chunk (length into.old)) (length self.old.shelf.rest)) }
-        ensures calls { self.new.plan.calls ≡ counted self.old.plan.calls }
-        ensures fails { IsErr result ↔ Contains self.old.plan.fails self.new.plan.calls }
-        ensures faults { OnErr result (self.new.plan.faults ≡ counted self.old.plan.faults) }
-        ensures planned { self.new.plan.fails ≡ self.old.plan.fails }
+        ensures moved { ReadConsumes (Some self.old.rest) (Some self.new.rest) result into.new }
+        ensures cause { HasCause self.old.faults self.new.faults result }
+        ensures most { IfOk result (λ n. n ≡ min (min self.old.chunk (length into.old)) (length self.old.rest)) }
+        ensures calls { self.new.calls ≡ counted self.old.calls }
+        ensures fails { IsErr result ↔ Contains self.old.fails self.new.calls }
+        ensures faults { OnErr result (self.new.faults ≡ counted self.old.faults) }
+        ensures planned { self.new.fails ≡ self.old.fails }
         ensures chunk { self.new.chunk ≡ self.old.chunk }
     {
         if self.plan.fails_now() {

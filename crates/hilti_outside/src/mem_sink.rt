@@ -10,6 +10,7 @@ use crate::plan::Plan;
 use crate::sink::Sink;
 use hilti_base::{NoMemory, Numbers};
 use std::alloc::Global;
+use std::marker::Model;
 
 /// A sink in memory, whose calls fail as planned. Calls of `write` are counted from 1, and take no memory: what may
 /// be written is reserved before.
@@ -19,8 +20,17 @@ pub struct MemSink {
     room: usize,
     plan: Plan,
     chunk: usize,
-    ghost some: { 1 ≤ chunk },
-    ghost reserved: { vec_len kept + room ≤ vec_capacity kept },
+}
+
+impl Model for MemSink {
+    ghost use Rattle.std.specs.Prelude.{◌+◌, ◌≤◌, vec_len, vec_capacity};
+    ghost use Rattle.hilti_outside.specs.Fakes.{PlannedSink};
+
+    ghost Value = { PlannedSink };
+
+    ghost view = { λ a. record { written = a.kept.items; room = a.room; fails = a.plan.fails; calls = a.plan.calls; faults = a.plan.faults; chunk = a.chunk } };
+
+    ghost invariant = { λ a. (1 ≤ a.chunk) × (vec_len a.kept + a.room ≤ vec_capacity a.kept) };
 }
 
 impl MemSink {
@@ -28,10 +38,7 @@ impl MemSink {
     /// will fail.
     pub fn new(alloc: Global, chunk: usize, fails: Numbers) -> MemSink
         requires { 1 ≤ chunk }
-        ensures kept { result.kept.items ≡ [] }
-        ensures room { result.room ≡ 0 }
-        ensures plan { result.plan ≡ record { fails = fails; calls = 0; faults = 0 } }
-        ensures chunk { result.chunk ≡ chunk }
+        ensures { result ≡ record { written = []; room = 0; fails = fails; calls = 0; faults = 0; chunk = chunk } }
     {
         MemSink {
             kept: Vec::new(alloc),
@@ -43,11 +50,8 @@ impl MemSink {
 
     /// Makes room for `bytes` more bytes, if there isn't room for as many already.
     pub fn reserve(&mut self, bytes: usize) -> Result<(), NoMemory>
-        ensures room { OnOk result (self.new.room ≡ max self.old.room bytes) }
-        ensures err { OnErr result (self.new.room ≡ self.old.room) }
-        ensures kept { self.new.kept.items ≡ self.old.kept.items }
-        ensures plan { self.new.plan ≡ self.old.plan }
-        ensures chunk { self.new.chunk ≡ self.old.chunk }
+        ensures ok { OnOk result (self.new ≡ record self.old { room = max self.old.room bytes }) }
+        ensures err { OnErr result (self.new ≡ self.old) }
     {
         let room = self.room.max(bytes);
         self.kept.reserve(room)?;
@@ -57,32 +61,32 @@ impl MemSink {
 
     /// All bytes that were taken.
     pub fn written(&self) -> &[u8]
-        ensures { result.now ≡ self.now.kept.items }
+        ensures { result.now ≡ self.now.written }
     {
         self.kept.as_slice()
     }
 }
 
 impl Sink for MemSink {
-    ghost written = { λ s. Some s.kept.items };
+    ghost written = { λ s. Some s.written };
 
-    ghost faults = { λ s. s.plan.faults };
+    ghost faults = { λ s. s.faults };
 
     /// Takes as many bytes as one write may take and as there is room for. Fails exactly where the number of the call
     /// is planned to fail, or there is a byte to take and no room.
     fn write(&mut self, piece: &[u8]) -> Result<usize, Failed>
         ensures count { WritesAtMost result piece.now }
         ensures some { 0 < length piece.now → IfOk result (λ n. 0 < n) }
-        ensures ok { IfOk result (λ n. self.new.kept.items ≡ self.old.kept.items ++ take n piece.now) }
-        ensures err { OnErr result (self.new.kept.items ≡ self.old.kept.items) }
-        ensures cause { HasCause self.old.plan.faults self.new.plan.faults result }
+        ensures ok { IfOk result (λ n. self.new.written ≡ self.old.written ++ take n piece.now) }
+        ensures err { OnErr result (self.new.written ≡ self.old.written) }
+        ensures cause { HasCause self.old.faults self.new.faults result }
         ensures most { IfOk result (λ n. n ≡ min (min self.old.chunk self.old.room) (length piece.now)) }
         ensures room { IfOk result (λ n. self.new.room + n ≡ self.old.room) }
-        ensures calls { self.new.plan.calls ≡ counted self.old.plan.calls }
-        ensures fails { IsErr result ↔ (Contains self.old.plan.fails self.new.plan.calls ⊎ (0 < length piece.now) × (self.old.room ≡ 0)) }
-        ensures faults { OnErr result (self.new.plan.faults ≡ counted self.old.plan.faults) }
+        ensures calls { self.new.calls ≡ counted self.old.calls }
+        ensures fails { IsErr result ↔ (Contains self.old.fails self.new.calls ⊎ (0 < length piece.now) × (self.old.room ≡ 0)) }
+        ensures faults { OnErr result (self.new.faults ≡ counted self.old.faults) }
         ensures left { OnErr result (self.new.room ≡ self.old.room) }
-        ensures planned { self.new.plan.fails ≡ self.old.plan.fails }
+        ensures planned { self.new.fails ≡ self.old.fails }
         ensures chunk { self.new.chunk ≡ self.old.chunk }
     {
         if self.plan.fails_now() {

@@ -7,6 +7,7 @@ use crate::count::one_more;
 use crate::files::{Failed, RETRIES};
 use crate::sink::Sink;
 use std::io::ErrorKind;
+use std::marker::Model;
 
 /// What prints, as a sink, unbuffered: what a write took was handed to the system. A call that is interrupted is
 /// tried again at most 16 times.
@@ -16,10 +17,18 @@ pub struct OutSink<P> {
     faults: u64,
 }
 
+impl<P> Model for OutSink<P> {
+    ghost use Rattle.std.specs.Prelude.{ℕ};
+
+    ghost Value = { ℕ };
+
+    ghost view = { λ a. a.faults };
+}
+
 impl<P: Print> OutSink<P> {
     /// Standard output, as a `main` has it: `OutSink::new(&rt)`.
     pub fn new(out: P) -> OutSink<P>
-        ensures { result.faults ≡ 0 }
+        ensures { result ≡ 0 }
     {
         OutSink { out, faults: 0 }
     }
@@ -28,13 +37,13 @@ impl<P: Print> OutSink<P> {
 impl<P: Print> Sink for OutSink<P> {
     ghost written = { λ _. None };
 
-    ghost faults = { λ s. s.faults };
+    ghost faults = { λ faults. faults };
 
     fn write(&mut self, piece: &[u8]) -> Result<usize, Failed>
         ensures count { WritesAtMost result piece.now }
         ensures some { 0 < length piece.now → IfOk result (λ n. 0 < n) }
-        ensures cause { HasCause self.old.faults self.new.faults result }
-        ensures faults { OnErr result (self.new.faults ≡ counted self.old.faults) }
+        ensures cause { HasCause self.old self.new result }
+        ensures faults { OnErr result (self.new ≡ counted self.old) }
     {
         match write_some(&self.out, piece) {
             Some(count) => Ok(count),

@@ -9,6 +9,7 @@ use crate::files::{Failed, Files};
 use crate::shelf::Shelf;
 use hilti_base::NoMemory;
 use std::alloc::Global;
+use std::marker::Model;
 
 /// Files in memory whose calls never fail. An absent name is an empty file, and a read gives as much as fits.
 #[derive(Debug, Drop)]
@@ -16,10 +17,20 @@ pub struct SureFiles {
     shelf: Shelf,
 }
 
+impl Model for SureFiles {
+    ghost use Rattle.hilti_outside.specs.Fakes.{Shelved, shelved_code};
+
+    ghost Value = { Shelved };
+
+    ghost coded = { shelved_code };
+
+    ghost view = { λ a. a.shelf };
+}
+
 impl SureFiles {
     /// No files.
     pub fn new(alloc: Global) -> SureFiles
-        ensures { result.shelf ≡ record { files = empty; rest = [] } }
+        ensures { result ≡ record { files = empty; rest = [] } }
     {
         SureFiles {
             shelf: Shelf::new(alloc),
@@ -28,17 +39,17 @@ impl SureFiles {
 
     /// Adds or replaces a file. The current one stays as it is.
     pub fn put_file(&mut self, name: &[u8], bytes: &[u8]) -> Result<(), NoMemory>
-        ensures ok { OnOk result (self.new.shelf ≡ record self.old.shelf { files = insert self.old.shelf.files name.now bytes.now }) }
-        ensures err { OnErr result (self.new.shelf ≡ self.old.shelf) }
+        ensures ok { OnOk result (self.new ≡ record self.old { files = insert self.old.files name.now bytes.now }) }
+        ensures err { OnErr result (self.new ≡ self.old) }
     {
         self.shelf.put(name, bytes)
     }
 }
 
 impl Files for SureFiles {
-    ghost files = { λ s. Some s.shelf.files };
+    ghost files = { λ s. Some s.files };
 
-    ghost rest = { λ s. Some s.shelf.rest };
+    ghost rest = { λ s. Some s.rest };
 
     ghost faults = { λ _. 0 };
 
@@ -46,9 +57,9 @@ impl Files for SureFiles {
 
     /// Never fails.
     fn open_file(&mut self, name: &[u8]) -> Result<(), Failed>
-        ensures files { self.new.shelf.files ≡ self.old.shelf.files }
+        ensures files { self.new.files ≡ self.old.files }
         ensures ok { IsOk result }
-        ensures rest { self.new.shelf.rest ≡ content self.old.shelf.files name.now }
+        ensures rest { self.new.rest ≡ content self.old.files name.now }
     {
         self.shelf.open(name);
         Ok(())
@@ -57,11 +68,11 @@ impl Files for SureFiles {
     /// Never fails, and gives as many bytes as are left and as fit.
     fn read(&mut self, into: &mut [u8]) -> Result<usize, Failed>
         requires { 0 < length into.old }
-        ensures files { self.new.shelf.files ≡ self.old.shelf.files }
+        ensures files { self.new.files ≡ self.old.files }
         ensures count { ReadsAtMost result into.new }
-        ensures moved { ReadConsumes (Some self.old.shelf.rest) (Some self.new.shelf.rest) result into.new }
+        ensures moved { ReadConsumes (Some self.old.rest) (Some self.new.rest) result into.new }
         ensures ok { IsOk result }
-        ensures most { IfOk result (λ n. n ≡ min (length into.old) (length self.old.shelf.rest)) }
+        ensures most { IfOk result (λ n. n ≡ min (length into.old) (length self.old.rest)) }
     {
         let most = into.len();
         Ok(self.shelf.read(into, most))

@@ -8,6 +8,7 @@ use crate::files::Failed;
 use crate::sink::Sink;
 use hilti_base::NoMemory;
 use std::alloc::Global;
+use std::marker::Model;
 
 /// A sink in memory whose calls never fail. It keeps as many bytes as it has room for, and counts the others alone.
 #[derive(Debug, Drop)]
@@ -15,15 +16,23 @@ pub struct SureSink {
     kept: Vec<u8>,
     room: usize,
     lost: u64,
-    ghost reserved: { vec_len kept + room ≤ vec_capacity kept },
+}
+
+impl Model for SureSink {
+    ghost use Rattle.std.specs.Prelude.{◌+◌, ◌≤◌, vec_len, vec_capacity};
+    ghost use Rattle.hilti_outside.specs.Fakes.{KeptBytes};
+
+    ghost Value = { KeptBytes };
+
+    ghost view = { λ a. record { kept = a.kept.items; room = a.room; lost = a.lost } };
+
+    ghost invariant = { λ a. vec_len a.kept + a.room ≤ vec_capacity a.kept };
 }
 
 impl SureSink {
     /// An empty sink that keeps at most `room` bytes.
     pub fn new(alloc: Global, room: usize) -> Result<SureSink, NoMemory>
-        ensures kept { IfOk result (λ sink. sink.kept.items ≡ []) }
-        ensures room { IfOk result (λ sink. sink.room ≡ room) }
-        ensures lost { IfOk result (λ sink. sink.lost ≡ 0) }
+        ensures { IfOk result (λ sink. sink ≡ record { kept = []; room = room; lost = 0 }) }
     {
         Ok(SureSink {
             kept: Vec::with_capacity(alloc, room)?,
@@ -34,7 +43,7 @@ impl SureSink {
 
     /// The bytes that were kept.
     pub fn written(&self) -> &[u8]
-        ensures { result.now ≡ self.now.kept.items }
+        ensures { result.now ≡ self.now.kept }
     {
         self.kept.as_slice()
     }
@@ -48,7 +57,7 @@ impl SureSink {
 }
 
 impl Sink for SureSink {
-    ghost written = { λ s. told_where (s.lost == 0) s.kept.items };
+    ghost written = { λ s. told_where (s.lost == 0) s.kept };
 
     ghost faults = { λ _. 0 };
 
@@ -56,8 +65,8 @@ impl Sink for SureSink {
     fn write(&mut self, piece: &[u8]) -> Result<usize, Failed>
         ensures count { WritesAtMost result piece.now }
         ensures whole { result ≡ Ok (length piece.now) }
-        ensures ok { Grows (told_where (self.old.lost == 0) self.old.kept.items) (told_where (self.new.lost == 0) self.new.kept.items) piece.now }
-        ensures kept { self.new.kept.items ≡ self.old.kept.items ++ take self.old.room piece.now }
+        ensures ok { Grows (told_where (self.old.lost == 0) self.old.kept) (told_where (self.new.lost == 0) self.new.kept) piece.now }
+        ensures kept { self.new.kept ≡ self.old.kept ++ take self.old.room piece.now }
         ensures room { self.new.room ≡ self.old.room - length piece.now }
         ensures lost { self.new.lost ≡ min (self.old.lost + (length piece.now - self.old.room)) (2 ^ 64 - 1) }
     {
