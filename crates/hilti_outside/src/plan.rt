@@ -10,9 +10,9 @@ use hilti_base::Numbers;
 /// Which calls of a fake fail, by their number, and how many did.
 #[derive(Debug, Drop)]
 pub struct Plan {
-    fails: Numbers,
-    calls: u64,
-    faults: u64,
+    pub fails: Numbers,
+    pub calls: u64,
+    pub faults: u64,
 }
 
 impl Plan {
