@@ -1,0 +1,16 @@
+pub mod Lists
+pub mod Moves
+pub mod Simulates
+pub mod Sums
+pub mod Seats
+pub mod Counts
+pub mod Atomic
+pub mod Histories
+pub mod Queue
+pub mod OneSender
+pub mod Posts
+pub mod Causal
+pub mod Kept
+pub mod Once
+pub mod Numbers
+pub mod Examples

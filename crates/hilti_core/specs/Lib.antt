@@ -1,0 +1,12 @@
+pub mod Sending
+pub mod Machine
+pub mod Core
+pub mod Atomic
+pub mod Sums
+pub mod Body
+pub mod History
+pub mod One
+pub mod Causes
+pub mod Kept
+pub mod Countdown
+pub mod CountdownLaw

@@ -1,0 +1,49 @@
+//! Laws over definitions alone, for every body, list of calls, limit and journal. They take no memory and do nothing:
+//! a caller learns what they ensure.
+
+ghost use Rattle.std.specs.Prelude.{ℕ, List};
+ghost use Rattle.hilti_tree.specs.declared.call.Call.{Call};
+ghost use Rattle.hilti_core.specs.declared.event.Event.{Event};
+ghost use Rattle.hilti_core.specs.Atomic.{IsCallAtomic};
+ghost use Rattle.hilti_core.specs.One.{HasOneAnswer};
+ghost use Rattle.hilti_core.specs.Causes.{ArrivesCausally};
+ghost use Rattle.hilti_core.specs.Kept.{KeepsCore, TakesMore, AreHistories};
+ghost use Rattle.hilti_core.specs.Machine.{Pick};
+
+use crate::body::Body;
+
+/// Call-atomic order: the starts of every legal journal are a history of the machine that runs each call at once, and
+/// its state compares with the core's. Where no call is in progress their logs, calls and segments are equal.
+pub fn call_atomic<B: Body>()
+    ensures { (about : B.Data) (calls : List Call) (limit : ℕ) (journal : List Event) → IsCallAtomic (B.effect about) calls limit journal }
+{}
+
+/// One sender, one answer: the one-worker history is a history of at most `limit` picks, complete where it has fewer.
+/// Where it is complete and each receiver's calls have one sender, no history has more picks, and every complete
+/// history has its logs, calls and segments.
+pub fn one_sender<B: Body>()
+    ensures { (about : B.Data) (calls : List Call) (limit : ℕ) → HasOneAnswer (B.effect about) calls limit }
+{}
+
+/// Causal arrival: in every legal journal a call is posted once, and only after each call that comes before it. So of
+/// two calls to one thread, of which one comes before the other, the history starts the other only after the one.
+pub fn causal<B: Body>()
+    ensures { (about : B.Data) (calls : List Call) (limit : ℕ) (journal : List Event) → ArrivesCausally (B.effect about) calls limit journal }
+{}
+
+/// What every history has: threads are what their calls did, each channel is first in first out, no call is started
+/// twice, and the history can go on by a pick wherever a channel isn't empty.
+pub fn histories<B: Body>()
+    ensures { (about : B.Data) (calls : List Call) (picks : List Pick) → AreHistories (B.effect about) calls picks }
+{}
+
+/// What every legal core keeps: workers and threads agree, no more calls started than may, inboxes are first in first
+/// out and numbered, and over sound calls every call in it is sound.
+pub fn legal_core<B: Body>()
+    ensures { (about : B.Data) (calls : List Call) (limit : ℕ) (journal : List Event) → KeepsCore (B.effect about) (B.sound about) calls limit journal }
+{}
+
+/// A journal that is legal over some calls is legal over more, and leaves those unfed.
+pub fn more_calls<B: Body>()
+    ensures { (about : B.Data) (calls more : List Call) (limit : ℕ) (journal : List Event) → TakesMore (B.effect about) calls more limit journal }
+{}
