@@ -1,0 +1,4 @@
+pub mod Journal
+pub mod Rule
+pub mod Passes
+pub mod Turns
