@@ -1,0 +1,55 @@
+-- The texts of addresses, nets and ports.
+use Rattle.std.specs.Prelude.{◌≡◌, ◌≢◌, ◌⊎◌, ℕ, ◌+◌, ◌*◌, ◌^◌, ◌≤◌, Bool, if◌then◌else◌, List, [], ◌∷◌, ◌++◌, length, slice_index}
+use Rattle.std.specs.Str.Parse.{digits_value, IsNumeral}
+use Rattle.hilti_addr.specs.declared.net.Net.{Net}
+use Rattle.hilti_addr.specs.declared.port.Port.{Port}
+use Rattle.hilti_addr.specs.Masks.{mapped, masked}
+
+-- `0`, or decimal digits without a leading zero, of a number up to a greatest
+pub record IsNumber (most : ℕ) (text : List ℕ) (n : ℕ) : Type 0 where
+  pub digits : IsNumeral 10 text
+  pub plain : (length text ≡ 1) ⊎ (slice_index text 0 ≢ 48)
+  pub value : n ≡ digits_value 10 text
+  pub small : n ≤ most
+
+-- four numbers up to 255, joined by points
+pub record IsAddress (text : List ℕ) (address : ℕ) : Type 0 where
+  pub first : List ℕ
+  pub second : List ℕ
+  pub third : List ℕ
+  pub fourth : List ℕ
+  pub a : ℕ
+  pub b : ℕ
+  pub c : ℕ
+  pub d : ℕ
+  pub parts : text ≡ first ++ 46 ∷ (second ++ 46 ∷ (third ++ 46 ∷ fourth))
+  pub at_first : IsNumber 255 first a
+  pub at_second : IsNumber 255 second b
+  pub at_third : IsNumber 255 third c
+  pub at_fourth : IsNumber 255 fourth d
+  pub value : address ≡ mapped (a * 2 ^ 24 + b * 2 ^ 16 + c * 2 ^ 8 + d)
+
+-- the net of the first bits of an IPv4 address, so many of its 32
+abbrev pub net_of : ℕ → ℕ → Net
+net_of address len = record { addr = masked address (96 + len); len = 96 + len }
+
+-- an address, a slash, and a number up to 32
+pub record IsNet (text : List ℕ) (net : Net) : Type 0 where
+  pub front : List ℕ
+  pub back : List ℕ
+  pub address : ℕ
+  pub len : ℕ
+  pub parts : text ≡ front ++ 47 ∷ back
+  pub at_front : IsAddress front address
+  pub at_back : IsNumber 32 back len
+  pub value : net ≡ net_of address len
+
+-- `udp` or `tcp`
+abbrev pub protocol : Bool → List ℕ
+protocol udp = if udp then 117 ∷ 100 ∷ 112 ∷ [] else 116 ∷ 99 ∷ 112 ∷ []
+
+-- a number up to 65,535, a slash, and the protocol
+pub record IsPort (text : List ℕ) (port : Port) : Type 0 where
+  pub front : List ℕ
+  pub parts : text ≡ front ++ 47 ∷ protocol port.udp
+  pub at_front : IsNumber 65535 front port.number

@@ -1,0 +1,74 @@
+ghost use Rattle.std.specs.Prelude.{◌≡◌, ◌≢◌, ℕ, ◌≤◌, ◌∷◌, ◌++◌, Bool, List, IfSome, IsNone};
+ghost use Rattle.hilti_addr.specs.declared.net.Net.{Net};
+ghost use Rattle.hilti_addr.specs.declared.port.Port.{Port};
+ghost use Rattle.hilti_addr.specs.Texts.{IsAddress, IsNet, IsNumber, IsPort, protocol};
+
+use crate::net::{Net, make_net, v4};
+use crate::numeral::{read_number, split_at_byte};
+use crate::port::Port;
+
+/// The address of four decimal numbers up to 255 without leading zeros, joined by points. `None` exactly for any other
+/// text.
+pub fn read_addr(text: &[u8]) -> Option<u128>
+    ensures some { IfSome result (λ address. IsAddress text.now address) }
+    ensures none { IsNone result → (address : ℕ) → ¬ (IsAddress text.now address) }
+{
+    let (first, rest) = read_part(text)?;
+    let (second, rest) = read_part(rest)?;
+    let (third, rest) = read_part(rest)?;
+    let fourth = read_number(rest, 255)?;
+    let number = first * 0x100_0000 + second * 0x1_0000 + third * 0x100 + fourth;
+    Some(v4(number as u32))
+}
+
+/// The net of an address, a slash, and a decimal number up to 32 without a leading zero; the bits past so many are
+/// cleared. `None` exactly for any other text.
+pub fn read_net(text: &[u8]) -> Option<Net>
+    ensures some { IfSome result (λ net. IsNet text.now net) }
+    ensures none { IsNone result → (net : Net) → ¬ (IsNet text.now net) }
+{
+    let (front, back) = split_at_byte(text, b'/')?;
+    let address = read_addr(front)?;
+    let len = read_number(back, 32)?;
+    make_net(address, len as u8)
+}
+
+/// The port of a decimal number up to 65,535 without a leading zero, followed by `/tcp` or `/udp`. `None` exactly for
+/// any other text.
+pub fn read_port(text: &[u8]) -> Option<Port>
+    ensures some { IfSome result (λ port. IsPort text.now port) }
+    ensures none { IsNone result → (port : Port) → ¬ (IsPort text.now port) }
+{
+    let (front, back) = split_at_byte(text, b'/')?;
+    let number = read_number(front, 65_535)?;
+    let udp = read_protocol(back)?;
+    Some(Port {
+        number: number as u16,
+        udp,
+    })
+}
+
+// A number up to 255 before the first point, and what stands behind the point.
+fn read_part(text: &[u8]) -> Option<(u64, &[u8])>
+    ensures some { IfSome result (λ part. (front : List ℕ) × (text.now ≡ front ++ 46 ∷ part.1.now) × IsNumber 255 front part.0) }
+    ensures small { IfSome result (λ part. part.0 ≤ 255) }
+    ensures none { IsNone result → (front back : List ℕ) (n : ℕ) → text.now ≡ front ++ 46 ∷ back → ¬ (IsNumber 255 front n) }
+{
+    let (front, back) = split_at_byte(text, b'.')?;
+    let number = read_number(front, 255)?;
+    Some((number, back))
+}
+
+// Whether the word is `udp`, where it is `udp` or `tcp`.
+fn read_protocol(word: &[u8]) -> Option<bool>
+    ensures some { IfSome result (λ udp. word.now ≡ protocol udp) }
+    ensures none { IsNone result → (udp : Bool) → word.now ≢ protocol udp }
+{
+    if word == b"udp".as_slice() {
+        Some(true)
+    } else if word == b"tcp".as_slice() {
+        Some(false)
+    } else {
+        None
+    }
+}

@@ -1,0 +1,11 @@
+//! Times and intervals, which are whole nanoseconds: exact sums, differences and products, and numerals of seconds.
+//! Nothing here takes memory.
+#![tactic(auto)]
+
+mod arithmetic;
+mod numeral;
+#[cfg(test)]
+mod tests;
+
+pub use arithmetic::{add, mul, sub};
+pub use numeral::read_decimal;

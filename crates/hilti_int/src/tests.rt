@@ -1,0 +1,79 @@
+// Expected results of signed rows come from a C program over int8_t to int64_t, the others from Python.
+use super::*;
+use hilti_base::Raise;
+use std::test::Fail;
+
+type Row = (IntOp, Width, u64, u64, u64);
+
+const ROWS: [Row; 24] = [
+    (IntOp::Add, Width::W8, 255, 1, 0),
+    (IntOp::Sub, Width::W16, 65529, 65534, 65531),
+    (IntOp::Sub, Width::W64, 0, 1, 18446744073709551615),
+    (IntOp::Mul, Width::W32, 4294967196, 7, 4294966596),
+    (IntOp::Div, Width::W8, 249, 2, 124),
+    (IntOp::Mod, Width::W8, 249, 2, 1),
+    (IntOp::Sdiv, Width::W8, 249, 2, 253),
+    (IntOp::Smod, Width::W8, 249, 2, 255),
+    (IntOp::Sdiv, Width::W8, 7, 254, 253),
+    (IntOp::Smod, Width::W8, 7, 254, 1),
+    (IntOp::Sdiv, Width::W16, 65529, 65534, 3),
+    (IntOp::Smod, Width::W16, 65529, 65534, 65535),
+    (
+        IntOp::Sdiv,
+        Width::W64,
+        9223372036854775808,
+        18446744073709551615,
+        9223372036854775808,
+    ),
+    (
+        IntOp::Smod,
+        Width::W64,
+        9223372036854775808,
+        18446744073709551615,
+        0,
+    ),
+    (IntOp::And, Width::W8, 0b1100, 0b1010, 0b1000),
+    (IntOp::Or, Width::W8, 0b1100, 0b1010, 0b1110),
+    (IntOp::Xor, Width::W8, 0b1100, 0b1010, 0b0110),
+    (IntOp::Shl, Width::W8, 0x81, 1, 2),
+    (IntOp::Shl, Width::W8, 0x81, 8, 0),
+    (IntOp::Shr, Width::W16, 0x4000, 3, 2048),
+    (IntOp::Shr, Width::W64, 9223372036854775808, 64, 0),
+    (IntOp::Sshr, Width::W8, 0x81, 1, 192),
+    (IntOp::Sshr, Width::W8, 0x81, 8, 255),
+    (
+        IntOp::Sshr,
+        Width::W64,
+        9223372036854775808,
+        63,
+        18446744073709551615,
+    ),
+];
+
+#[test]
+fn applies(rt: HostRuntime) -> Result<(), Fail> {
+    for (op, width, a, b, expected) in ROWS {
+        let answer = apply(op, width, fit(width, a), fit(width, b));
+        assert_eq!(rt; answer, Ok(expected), "{op:?} {a} {b}");
+    }
+    for op in [IntOp::Div, IntOp::Mod, IntOp::Sdiv, IntOp::Smod] {
+        let answer = apply(op, Width::W8, 1, 0);
+        assert_eq!(rt; answer, Err(Raise::DivisionByZero), "{op:?}");
+    }
+    Ok(())
+}
+
+#[test]
+fn compares(rt: HostRuntime) {
+    let held = [
+        compare(IntCmp::Lt, Width::W8, 128, 255),
+        compare(IntCmp::Gt, Width::W8, 255, 128),
+        compare(IntCmp::Leq, Width::W8, 7, 7),
+        compare(IntCmp::Geq, Width::W8, 7, 7),
+        compare(IntCmp::Slt, Width::W32, 4294967196, 7),
+        compare(IntCmp::Sgt, Width::W8, 7, 254),
+    ];
+    assert_eq!(rt; held, [true; 6]);
+    assert!(rt; !compare(IntCmp::Slt, Width::W8, 7, 254));
+    assert!(rt; !compare(IntCmp::Lt, Width::W8, 7, 7));
+}

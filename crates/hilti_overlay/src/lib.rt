@@ -1,0 +1,11 @@
+//! Fields of packet bytes: whole numbers and ranges of their bits, addresses, ports and ranges of bytes. Nothing here
+//! takes memory.
+#![tactic(auto)]
+
+mod field;
+#[cfg(test)]
+mod tests;
+mod unpack;
+
+pub use field::{Form, PastEnd, Scalar, Unpack};
+pub use unpack::get;
