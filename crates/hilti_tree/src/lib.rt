@@ -2,7 +2,11 @@
 #![tactic(auto)]
 
 mod call;
+mod copies;
+mod sizes;
 mod tree;
 
 pub use call::{Call, Calls};
+pub use copies::{copy, copy_call};
+pub use sizes::size;
 pub use tree::{Forest, Tree};

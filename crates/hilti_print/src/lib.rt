@@ -1,0 +1,9 @@
+//! The texts of values. Each function adds a text at the end of `out`, changes nothing else, and fails for want of memory
+//! alone; `out` is then only dropped.
+#![tactic(auto)]
+
+#[cfg(test)]
+mod tests;
+mod text;
+
+pub use text::{escaped, moment, number};

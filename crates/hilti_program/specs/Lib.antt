@@ -1,0 +1,3 @@
+pub mod Givens
+pub mod Rows
+pub mod Typing
