@@ -1,0 +1,36 @@
+// Expected pairs come from a Python dict, read by sorted keys, and versions from counting the changes.
+use super::*;
+
+#[test]
+fn keeps_keys_in_order(rt: HostRuntime) {
+    let mut map = Keyed::new(rt.alloc());
+    assert_eq!(rt; map.len(), 0);
+    assert_eq!(rt; map.insert(30u64, b'c', 100), Ok(None));
+    assert_eq!(rt; map.insert(10, b'a', 200), Ok(None));
+    assert_eq!(rt; map.insert(30, b'd', 300), Ok(Some(b'c')));
+    assert_eq!(rt; map.len(), 2);
+    assert_eq!(rt; map.at(0), Some((&10, &b'a')));
+    assert_eq!(rt; map.at(1), Some((&30, &b'd')));
+    assert_eq!(rt; map.at(2), None);
+    assert_eq!(rt; map.get(&10), Some(&b'a'));
+    assert_eq!(rt; map.get(&20), None);
+    assert_eq!(rt; map.stamp(&30), Some(300));
+    assert_eq!(rt; map.stamp(&20), None);
+    assert_eq!(rt; map.version(), 3);
+}
+
+#[test]
+fn stamps_and_removes(rt: HostRuntime) {
+    let mut map = Keyed::new(rt.alloc());
+    assert_eq!(rt; map.insert(1u64, b'x', 5), Ok(None));
+    assert_eq!(rt; map.insert(2, b'y', 6), Ok(None));
+    assert!(rt; map.set_stamp(&2, 9));
+    assert!(rt; !map.set_stamp(&3, 9));
+    assert_eq!(rt; map.version(), 2);
+    assert_eq!(rt; map.remove(&2), Some((2, b'y', 9)));
+    assert_eq!(rt; map.remove(&2), None);
+    assert_eq!(rt; map.version(), 3);
+    map.clear();
+    assert_eq!(rt; map.len(), 0);
+    assert_eq!(rt; map.version(), 4);
+}

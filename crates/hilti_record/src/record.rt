@@ -1,0 +1,62 @@
+ghost use Rattle.std.specs.Prelude.{◌≡◌, ◌<◌, length, replicate, slice_get, slice_set, Some, None, IfOk};
+ghost use Rattle.std.specs.Option.{option_copied};
+
+use hilti_base::NoMemory;
+use std::alloc::Global;
+use std::marker::Model;
+
+/// Fields in order, each with an item or unset. Contracts see the list of the fields.
+#[derive(Debug, Drop)]
+pub struct Record<T> {
+    fields: Vec<Option<T>>,
+}
+
+impl<T> Model for Record<T> {
+    ghost use Rattle.std.specs.Prelude.{List, Option};
+    ghost use Rattle.std.specs.Coded.{coded_list, coded_option};
+
+    ghost Value = { List (Option T) };
+
+    ghost coded = { coded_list (coded_option T.code) };
+
+    ghost view = { λ a. a.fields.items };
+}
+
+impl<T: Drop> Record<T> {
+    /// A record of so many fields, all unset.
+    pub fn new(alloc: Global, fields: usize) -> Result<Record<T>, NoMemory>
+        ensures { IfOk result (λ a. a ≡ replicate fields None) }
+    {
+        let mut unset = Vec::with_capacity(alloc, fields)?;
+        for _ in 0..fields {
+            unset.push(None)?;
+        }
+        Ok(Record { fields: unset })
+    }
+
+    /// Gives a field an item. An item that was there is dropped.
+    pub fn set(&mut self, at: usize, item: T)
+        requires { at < length self.old }
+        ensures { self.new ≡ slice_set self.old at (Some item) }
+    {
+        self.fields[at] = Some(item);
+    }
+
+    /// Makes a field unset. An item that was there is dropped.
+    pub fn unset(&mut self, at: usize)
+        requires { at < length self.old }
+        ensures { self.new ≡ slice_set self.old at None }
+    {
+        self.fields[at] = None;
+    }
+}
+
+impl<T> Record<T> {
+    /// The item of a field; `None` exactly where the field is unset.
+    pub fn get(&self, at: usize) -> Option<&T>
+        requires { at < length self.now }
+        ensures { slice_get self.now at ≡ Some (option_copied result) }
+    {
+        self.fields[at].as_ref()
+    }
+}

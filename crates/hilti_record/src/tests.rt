@@ -1,0 +1,17 @@
+// Fields that are set and unset by hand.
+use super::*;
+use std::test::Fail;
+
+#[test]
+fn sets_and_unsets(rt: HostRuntime) -> Result<(), Fail> {
+    let mut record = Record::new(rt.alloc(), 2)?;
+    assert_eq!(rt; record.get(1), None);
+    record.set(1, 7u64);
+    assert_eq!(rt; record.get(0), None);
+    assert_eq!(rt; record.get(1), Some(&7));
+    record.set(1, 8);
+    assert_eq!(rt; record.get(1), Some(&8));
+    record.unset(1);
+    assert_eq!(rt; record.get(1), None);
+    Ok(())
+}

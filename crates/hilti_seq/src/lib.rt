@@ -1,0 +1,8 @@
+//! A list that counts its changes, so that an iterator over it can tell whether it is stale.
+#![tactic(auto)]
+
+mod seq;
+#[cfg(test)]
+mod tests;
+
+pub use seq::Seq;
