@@ -1,0 +1,9 @@
+//! Entries that wait for their times, each under a serial of its own. The next that is due is the one of the least due
+//! time, and of these the one of the least serial.
+#![tactic(auto)]
+
+mod manager;
+#[cfg(test)]
+mod tests;
+
+pub use manager::Manager;
