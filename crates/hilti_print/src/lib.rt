@@ -5,5 +5,7 @@
 #[cfg(test)]
 mod tests;
 mod text;
+mod value;
 
 pub use text::{escaped, moment, number};
+pub use value::tree;
