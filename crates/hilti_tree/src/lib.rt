@@ -4,6 +4,8 @@
 mod call;
 mod copies;
 mod sizes;
+#[cfg(test)]
+mod tests;
 mod tree;
 
 pub use call::{Call, Calls};

@@ -4,6 +4,8 @@
 mod declared;
 mod equality;
 mod op;
+#[cfg(test)]
+mod tests;
 mod value_type;
 
 pub use declared::{Declared, Member, Members, OverlayField, OverlayFields, TypeTable};
