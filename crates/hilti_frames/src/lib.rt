@@ -2,6 +2,8 @@
 #![tactic(auto)]
 
 mod frames;
+#[cfg(test)]
+mod tests;
 mod variables;
 
 pub use frames::{Frame, Frames};
