@@ -1,12 +1,16 @@
-//! What one instruction does: a step of a function's frame, as the meaning of calls has it. The machine that runs whole
-//! calls by such steps is still to come.
+//! Runs the calls of a program on virtual threads, an instruction after another, as the meaning of calls has it.
 #![tactic(auto)]
 
+mod calls;
 mod entries;
+mod machine;
 mod operands;
 mod rows;
+mod run;
+mod stack;
 mod steps;
 mod texts;
 mod values;
 
+pub use machine::{Machine, Vthread};
 pub use steps::{Step, act};

@@ -54,6 +54,15 @@ impl Program {
         }
     }
 
+    /// Its parts, whose lists are short.
+    pub fn parts(&self) -> &Parts
+        ensures is { result.now ≡ self.now }
+        ensures short { AreShort self.now }
+    {
+        let _packet = self.packet;
+        &self.parts
+    }
+
     /// The function that each packet is handed to.
     pub fn packet(&self) -> FnId
         ensures { IsProgram self.now result.n }
