@@ -54,7 +54,7 @@ no_fourth text rest later last n m k begins goes ends none address is =
     let at_last : last ≡ is.fourth = rest_after later k last ends is.third _ is.c at_later is.at_third in
     none is.d (subst (λ f. IsNumber 255 f is.d) (sym at_last) is.at_fourth)
 
-address_lacks : (text : List ℕ) (address : ℕ) → IsAddress text address → Lacks 47 text
+pub address_lacks : (text : List ℕ) (address : ℕ) → IsAddress text address → Lacks 47 text
 address_lacks text address is =
     let low : 47 < 48 = omega arith in
     let point : 46 ≢ 47 = λ same. omega (arith, same) in

@@ -2,7 +2,7 @@ ghost use Rattle.std.specs.Prelude.{◌≡◌, ◌≢◌, ℕ, ◌^◌, ◌<◌,
 ghost use Rattle.std.specs.Str.Parse.{digits_value, IsNumeral};
 ghost use Rattle.hilti_addr.specs.Texts.{IsNumber};
 
-/// The text before the first of a byte, and behind it.
+/// The text before the first of a byte, and behind it; `None` exactly where the byte stands nowhere.
 pub fn split_at_byte(text: &[u8], at: u8) -> Option<(&[u8], &[u8])>
     ensures none { IsNone result → (k : ℕ) → k < length text.now → slice_index text.now k ≢ at }
     ensures parts { IfSome result (λ parts. text.now ≡ parts.0.now ++ at ∷ parts.1.now) }

@@ -1,0 +1,10 @@
+pub mod Beginnings
+pub mod Digits
+pub mod Lengths
+pub mod Numerals
+pub mod Strings
+pub mod Places
+pub mod Readings
+pub mod Forms
+pub mod OneSpelling
+pub mod Unique
