@@ -1,6 +1,8 @@
 mod Bytes
-mod Digits
 mod Lines
 mod Named
 mod Operands
+mod Printing
+mod Running
 mod ThreeWords
+mod Typed

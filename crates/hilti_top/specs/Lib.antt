@@ -1,7 +1,8 @@
 pub mod InputFaults
 pub mod Inputs
 pub mod ModuleText
+pub mod Program
 pub mod Report
+pub mod Run
 pub mod StatusText
-pub mod Texts
 pub mod Words

@@ -1,5 +1,5 @@
 -- The form of a module that is accepted today.
-use Rattle.std.specs.Prelude.{◌≡◌, ℕ, ◌≤◌, List, ◌∷◌, ◌++◌, length, codes}
+use Rattle.std.specs.Prelude.{◌≡◌, ℕ, ◌<◌, ◌≤◌, List, ◌∷◌, ◌++◌, length, codes}
 use Rattle.std.specs.List.{flat_map, AllByRecursion}
 use Rattle.hilti_top.specs.declared.module_text.Parameter.{Parameter}
 use Rattle.hilti_top.specs.declared.module_text.Parameter.TheVariants.{Time, Bytes}
@@ -32,6 +32,11 @@ pub record IsModule (text : List ℕ) (lines : List (List Parameter)) : Type 0 w
   pub spelled : text ≡ head ++ flat_map print_line lines ++ foot
   pub short : AllByRecursion AreOperands lines
   pub within : length text ≤ 1048576
+
+-- the print lines that a module has room for
+pub record ArePrintLines (lines : List (List Parameter)) : Type 0 where
+  pub short : AllByRecursion AreOperands lines
+  pub few : length lines < 1000000
 
 -- a text that begins with operands and a line's end, and goes on with the rest
 pub record BeginsWithOperands (text : List ℕ) (operands : List Parameter) (rest : List ℕ) : Type 0 where

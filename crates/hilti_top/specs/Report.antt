@@ -3,14 +3,14 @@ use Rattle.std.specs.Prelude.{ℕ, List, [], ◌∷◌, ◌++◌, length, codes}
 use Rattle.std.specs.Fmt.{decimal}
 use Rattle.std.specs.List.{flat_map, join_by}
 use Rattle.hilti_pcap.specs.declared.packet.Packet.{Packet}
+use Rattle.hilti_print.specs.Texts.{moment_text, escaped_text}
 use Rattle.hilti_top.specs.declared.module_text.Parameter.{Parameter}
 use Rattle.hilti_top.specs.declared.module_text.Parameter.TheVariants.{Time, Bytes}
-use Rattle.hilti_top.specs.Texts.{moment, escaped}
 
 -- the value of a parameter, as `print` shows it
 abbrev pub value_text : Packet → Parameter → List ℕ
-value_text packet Time = moment packet.time
-value_text packet Bytes = escaped packet.bytes
+value_text packet Time = moment_text packet.time
+value_text packet Bytes = escaped_text packet.bytes
 
 -- what one print line prints: values with one space between them, on a line behind two spaces
 abbrev pub line : Packet → List Parameter → List ℕ

@@ -1,11 +1,11 @@
 //! The inputs of a command, from the names of their files.
-ghost use Rattle.std.specs.Prelude.{◌≡◌, ◌≢◌, List, Option, Some, Err, IfOk};
+ghost use Rattle.std.specs.Prelude.{◌≡◌, ◌≢◌, ◌≤◌, List, Option, Some, Err, IfOk, length};
 ghost use Rattle.hilti_outside.specs.Contents.{FileMap, content};
 ghost use Rattle.hilti_outside.specs.Faults.{Rose};
 ghost use Rattle.hilti_pcap.specs.declared.packet.Packet.{Packet};
 ghost use Rattle.hilti_pcap.specs.Capture.{HasPackets};
 ghost use Rattle.hilti_top.specs.declared.module_text.Parameter.{Parameter};
-ghost use Rattle.hilti_top.specs.ModuleText.{IsModule};
+ghost use Rattle.hilti_top.specs.ModuleText.{ArePrintLines, IsModule};
 
 use crate::module_text::{self, ModuleFault, PrintLines};
 use hilti_outside::{FileFault, Files, read_file};
@@ -70,6 +70,7 @@ impl From<LeFault> for InputFault {
 }
 
 /// The print lines of the module in a file.
+#[tactic(auto, using(crate::proofs::Typed::lines_fit))]
 pub fn read_module<F: Files>(
     alloc: Global,
     files: &mut F,
@@ -77,6 +78,7 @@ pub fn read_module<F: Files>(
 ) -> Result<PrintLines, InputFault>
     ensures files { F.files files.new ≡ F.files files.old }
     ensures lines { IfOk result (λ lines. (all : FileMap) → F.files files.old ≡ Some all → IsModule (content all name.now) lines) }
+    ensures fit { IfOk result (λ lines. ArePrintLines lines) }
     ensures not_yet { result ≡ Err InputFault.NotYet → (all : FileMap) → F.files files.old ≡ Some all → (lines : List (List Parameter)) → IsModule (content all name.now) lines → ⊥ }
     ensures failed { result ≡ Err InputFault.ReadFault → Rose (F.faults files.old) (F.faults files.new) }
     ensures heard { result ≢ Err InputFault.ReadFault → F.faults files.new ≡ F.faults files.old }
@@ -93,6 +95,7 @@ pub fn read_capture<F: Files>(
 ) -> Result<Packets, InputFault>
     ensures files { F.files files.new ≡ F.files files.old }
     ensures packets { IfOk result (λ packets. (all : FileMap) → F.files files.old ≡ Some all → HasPackets (content all name.now) packets) }
+    ensures few { IfOk result (λ packets. length packets ≤ 1000000) }
     ensures not_yet { result ≡ Err InputFault.NotYet → (all : FileMap) → F.files files.old ≡ Some all → (packets : List Packet) → HasPackets (content all name.now) packets → ⊥ }
     ensures failed { result ≡ Err InputFault.ReadFault → Rose (F.faults files.old) (F.faults files.new) }
     ensures heard { result ≢ Err InputFault.ReadFault → F.faults files.new ≡ F.faults files.old }

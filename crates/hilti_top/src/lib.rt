@@ -5,11 +5,12 @@ mod call;
 mod input;
 pub mod laws;
 mod module_text;
+mod program;
 mod report;
+mod run;
 mod status;
 #[cfg(test)]
 mod tests;
-mod text;
 mod words;
 
 pub use call::hilti_call;

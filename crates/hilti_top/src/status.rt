@@ -1,8 +1,8 @@
 ghost use Rattle.std.specs.Prelude.{◌≡◌, ◌++◌, IfOk, OnOk};
 ghost use Rattle.hilti_top.specs.StatusText.{code_text, number_of, text_of};
 
-use crate::text::append_number;
 use hilti_base::{Blob, NoMemory, Place};
+use hilti_print::number;
 use std::alloc::Global;
 
 /// How a command ended.
@@ -62,11 +62,11 @@ fn bad_module_text(alloc: Global, place: &Place, code: u32) -> Result<Blob, NoMe
     ensures { IfOk result (λ text. text ≡ text_of (Status.BadModule place.now code)) }
 {
     let mut out = Blob::of(alloc, b"hilti: module ")?;
-    append_number(&mut out, u64::from(place.file))?;
+    number(&mut out, u64::from(place.file))?;
     out.append(b":")?;
-    append_number(&mut out, u64::from(place.line))?;
+    number(&mut out, u64::from(place.line))?;
     out.append(b":")?;
-    append_number(&mut out, u64::from(place.column))?;
+    number(&mut out, u64::from(place.column))?;
     append_code(&mut out, code)?;
     Ok(out)
 }
@@ -75,7 +75,7 @@ fn bad_capture_text(alloc: Global, at: u64, code: u32) -> Result<Blob, NoMemory>
     ensures { IfOk result (λ text. text ≡ text_of (Status.BadCapture at code)) }
 {
     let mut out = Blob::of(alloc, b"hilti: capture at ")?;
-    append_number(&mut out, at)?;
+    number(&mut out, at)?;
     append_code(&mut out, code)?;
     Ok(out)
 }
@@ -85,6 +85,6 @@ fn append_code(out: &mut Blob, code: u32) -> Result<(), NoMemory>
     ensures { OnOk result (out.new ≡ out.old ++ code_text code) }
 {
     out.append(b": code ")?;
-    append_number(out, u64::from(code))?;
+    number(out, u64::from(code))?;
     out.append(b"\n")
 }
