@@ -9,6 +9,8 @@ mod rows;
 mod run;
 mod stack;
 mod steps;
+#[cfg(test)]
+mod tests;
 mod texts;
 mod values;
 
