@@ -15,4 +15,3 @@ mod texts;
 mod values;
 
 pub use machine::{Machine, Vthread};
-pub use steps::{Step, act};
