@@ -67,7 +67,8 @@ impl<K: Eq, V> Classifier<K, V> {
         }
     }
 
-    /// How many rules there are. All of them ask something of as many fields.
+    /// How many rules there are. They are alike: each asks something of as many fields, 1 to 8, and no net in them is
+    /// longer than an address.
     pub fn len(&self) -> usize
         ensures len { result ≡ length self.now.rules }
         ensures alike { AreRules self.now.rules }
