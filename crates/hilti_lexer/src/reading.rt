@@ -1,10 +1,9 @@
 //! The tokens of a whole text.
-ghost use Rattle.std.specs.Prelude.{◌≡◌, ℕ, ◌+◌, ◌<◌, ◌≤◌, ◌^◌, [], List, length, IfOk, IfSome, IsNone, Err, OnOk, MatchOption};
+ghost use Rattle.std.specs.Prelude.{◌≡◌, ℕ, ◌+◌, ◌<◌, ◌≤◌, ◌^◌, [], length, IfOk, IfSome, IsNone, Err};
 ghost use Rattle.hilti_base.specs.declared.names.Place.{Place};
 ghost use Rattle.hilti_lexer.specs.Readings.{HasRoom, IsNext, IsRefusedAt, Lexes, Refuses};
 ghost use Rattle.hilti_lexer.specs.Readings as readings;
 
-use crate::fault::LexicalFault;
 use crate::front::{Front, read_front};
 use crate::missing::Missing;
 use crate::runs::behind_gap;

@@ -1,5 +1,5 @@
 //! What stands between the quotes of strings and bytes literals.
-ghost use Rattle.std.specs.Prelude.{◌≡◌, ◌≢◌, ℕ, ◌+◌, ◌*◌, ◌<◌, ◌∷◌, List, length, slice_index, IfSome, IsNone, IfOk, Some, Err, Option, SomeIff, MatchOption};
+ghost use Rattle.std.specs.Prelude.{◌≡◌, ℕ, ◌+◌, ◌*◌, ◌<◌, ◌∷◌, List, length, IfSome, IsNone, IfOk, Err, SomeIff};
 ghost use Rattle.std.specs.Char.{digit_value};
 ghost use Rattle.hilti_lexer.specs.declared.fault.LexicalFault.{LexicalFault};
 ghost use Rattle.hilti_lexer.specs.Strings.{AreSpelled, FailsInside, IsClosed, Spells};
