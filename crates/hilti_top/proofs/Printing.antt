@@ -1,21 +1,19 @@
 -- What a call does in the program of a module of print lines: a line for each print line, in one segment.
-use Rattle.std.proofs.Common.{◌≡◌, refl, ℕ, zero, suc, ◌+◌, ◌<◌, Bool, true, false, List, [], ◌∷◌, ◌++◌, length, map, Option, Some, None, slice_get, flat_map, codes, sym, ◌∙◌, ap, subst, arith, append_assoc, append-nil, length-append}
+use Rattle.std.proofs.Common.{◌≡◌, refl, ℕ, zero, suc, ◌+◌, ◌<◌, Bool, true, false, List, [], ◌∷◌, ◌++◌, length, map, Some, None, slice_get, flat_map, codes, sym, ◌∙◌, ap, arith, append_assoc, append-nil, length-append}
 use Rattle.std.specs.List.{join_by}
 use Rattle.std.proofs.lemmas.List.{map-append, length-map}
-use Rattle.hilti_base.specs.declared.names.FnId.{FnId}
 use Rattle.hilti_tree.specs.declared.call.Call.{Call}
 use Rattle.hilti_heap.specs.declared.value.Value.{Value}
 use Rattle.hilti_heap.specs.declared.value.Value.TheVariants as values
 use Rattle.hilti_program.specs.declared.parts.Parts.{Parts}
-use Rattle.hilti_program.specs.declared.parts.Operand.{Operand}
 use Rattle.hilti_program.specs.declared.parts.Instruction.{Instruction}
 use Rattle.hilti_frames.specs.declared.frames.Frame.{Frame}
 use Rattle.hilti_frames.specs.declared.frames.Frame.TheVariants as frames
 use Rattle.hilti_core.specs.declared.pieces.Item.{Item}
 use Rattle.hilti_core.specs.declared.pieces.Item.TheVariants.{Line}
 use Rattle.hilti_core.specs.declared.pieces.End.TheVariants.{Returned}
-use Rattle.hilti_meaning.specs.Calls.{Action.Go, Action.Leave, Outcome, Outcome.Ended, emit, rest}
-use Rattle.hilti_meaning.specs.State.{State, Result, Mark, Mark.Did}
+use Rattle.hilti_meaning.specs.Calls.{Action.Go, Action.Leave, Outcome.Ended, rest}
+use Rattle.hilti_meaning.specs.State.{State, Result, Mark.Did}
 use Rattle.hilti_meaning.specs.Values.{text_of}
 use Rattle.hilti_meaning.specs.Rows.{given, instruction_at, row_by, act, language}
 use Rattle.hilti_meaning.specs.Effect.{tell, closing, name_of, fresh, called, opens, waits, first_of, outcome, state_after, effect}

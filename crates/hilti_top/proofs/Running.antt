@@ -1,16 +1,16 @@
 -- What the machine answers for the call for a packet.
-use Rattle.std.proofs.Common.{◌≡◌, refl, ℕ, ◌<◌, List, [], ◌∷◌, ◌++◌, length, map, drop, flat_map, Option, Some, None, sym, ◌∙◌, ap, subst, arith}
+use Rattle.std.proofs.Common.{◌≡◌, refl, ℕ, List, [], ◌∷◌, ◌++◌, map, flat_map, Some, None, sym, ◌∙◌, ap, subst}
 use Rattle.hilti_tree.specs.declared.call.Call.{Call}
 use Rattle.hilti_core.specs.declared.pieces.Item.{Item}
 use Rattle.hilti_core.specs.declared.pieces.Segment.{Segment}
 use Rattle.hilti_core.specs.declared.pieces.End.TheVariants.{Returned}
-use Rattle.hilti_core.specs.Core.{Running, finished_after, running_after}
+use Rattle.hilti_core.specs.Core.{finished_after, running_after}
 use Rattle.hilti_core.specs.Body.{Runs, IsIdle, IsBusy, Starts, Gives}
 use Rattle.hilti_meaning.specs.Effect.{effect}
 use Rattle.hilti_fiber.specs.Threads.{Facts}
 use Rattle.hilti_pcap.specs.declared.packet.Packet.{Packet}
 use Rattle.hilti_top.specs.declared.module_text.Parameter.{Parameter}
-use Rattle.hilti_top.specs.Program.{parts_of, packet_call}
+use Rattle.hilti_top.specs.Program.{packet_call}
 use Rattle.hilti_top.specs.Report.{line, call_lines}
 use Rattle.hilti_top.specs.Run.{IsMachineOf, item_line, Finishes}
 use Rattle.hilti_top.proofs.Printing.{printed, prints}

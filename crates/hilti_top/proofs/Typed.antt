@@ -1,16 +1,15 @@
 -- The program of a module of print lines is typed, and has its entry.
-use Rattle.std.proofs.Common.{◌≡◌, refl, ℕ, zero, suc, ◌+◌, ◌*◌, ◌<◌, ◌≤◌, ◌^◌, Bool, true, false, cond, nat_lt, List, [], ◌∷◌, ◌++◌, length, map, Option, Some, None, IsSomeAnd, position, slice_get, flat_map, codes, sym, ◌∙◌, ap, subst, arith, lit<, length-append}
+use Rattle.std.proofs.Common.{◌≡◌, refl, ℕ, zero, suc, ◌+◌, ◌*◌, ◌<◌, ◌≤◌, cond, nat_lt, List, [], ◌∷◌, ◌++◌, length, map, Some, None, IsSomeAnd, position, flat_map, codes, sym, ◌∙◌, ap, subst, arith, lit<, length-append}
 use Rattle.std.proofs.lemmas.List.{length-map}
 use Rattle.std.proofs.lemmas.Bool.{lt-ltb}
 use Rattle.std.specs.List.{All, AllByRecursion, position_or_len}
 use Rattle.std.proofs.lemmas.List.Elements.{All-nil, All-append, All-map}
 use Rattle.hilti_program.specs.declared.parts.Parts.{Parts}
 use Rattle.hilti_program.specs.declared.parts.Block.{Block}
-use Rattle.hilti_program.specs.declared.parts.Function.{Function}
 use Rattle.hilti_program.specs.declared.parts.Instruction.{Instruction}
 use Rattle.hilti_program.specs.Givens.{IsGiven, IsBuilt}
 use Rattle.hilti_program.specs.Rows.{is_ending}
-use Rattle.hilti_program.specs.Typing.{IsInstruction, IsBlock, IsFunction, IsGlobal, IsTyped, IsEntry, HasEntry, IsShort, HasShortLists, AreShort}
+use Rattle.hilti_program.specs.Typing.{IsInstruction, IsBlock, IsFunction, IsGlobal, IsTyped, HasEntry, IsShort, HasShortLists, AreShort}
 use Rattle.hilti_program.proofs.Deciding.{all_one}
 use Rattle.hilti_top.specs.declared.module_text.Parameter.{Parameter}
 use Rattle.hilti_top.specs.declared.module_text.Parameter.TheVariants.{Time, Bytes}

@@ -1,8 +1,6 @@
 -- The program of a module of print lines, and the call for a packet.
-use Rattle.std.specs.Prelude.{ℕ, List, [], ◌∷◌, ◌++◌, map, Some, None, codes}
-use Rattle.hilti_base.specs.declared.names.FnId.{FnId}
+use Rattle.std.specs.Prelude.{List, [], ◌∷◌, ◌++◌, map, None, codes}
 use Rattle.hilti_tree.specs.declared.call.Call.{Call}
-use Rattle.hilti_tree.specs.declared.tree.Tree.{Tree}
 use Rattle.hilti_tree.specs.declared.tree.Tree.TheVariants as trees
 use Rattle.hilti_types.specs.declared.op.Op.TheVariants as ops
 use Rattle.hilti_types.specs.declared.value_type.ValueType.TheVariants as types

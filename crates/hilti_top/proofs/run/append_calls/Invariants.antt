@@ -1,4 +1,4 @@
-use Rattle.std.proofs.Common.{◌≡◌, ◌++◌, [], None, map, take, flat_map}
+use Rattle.std.proofs.Common.{◌≡◌, ◌++◌, None, map, take, flat_map}
 use Rattle.hilti_fiber.specs.Threads.{runs}
 use Rattle.hilti_top.specs.Program.{packet_call}
 use Rattle.hilti_top.specs.Report.{call_lines}
