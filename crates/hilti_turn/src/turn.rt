@@ -9,7 +9,7 @@ use hilti_base::NoMemory;
 use std::alloc::Global;
 use std::snapshot::Snapshot;
 use std::sync::Wait;
-use std::thread;
+use std::time::Duration;
 
 /// The word that counts the tickets given.
 const GIVEN: usize = 0;
@@ -17,16 +17,26 @@ const GIVEN: usize = 0;
 const SERVED: usize = 1;
 /// The word that has the number of entries.
 const COUNTED: usize = 2;
+/// The first of the words that passes sleep on, which have 0 at all times.
+const BEDS: usize = 3;
+/// How many beds there are. At most so many passes wait at once, so each has one of its own.
+const BED_COUNT: u64 = 64;
 /// How many words there are.
-const WORDS: usize = 3;
+const WORDS: usize = 67;
 /// The slot that has the value.
 const VALUE: usize = 0;
+/// How far from the ticket that is served a pass sleeps until another ticket is served, and not in its bed.
+const NEAR: u64 = 4;
+/// The longest sleep in a bed, in milliseconds.
+const NAP: u64 = 5;
+/// The low half of a word, which is what a sleep looks at.
+const LOW_HALF: u64 = 0xffff_ffff;
 
 /// A lock for one value with a journal. Passes take turns in the order of their tickets.
 #[derive(Drop)]
 pub struct Turn<V: Journalled + Drop> {
     table: Table<Option<V>, View<V::Entry, V::About>, Opening<V>, TurnRule<V>, Global>,
-    ghost counts: { (table.shared.table_id.words ≡ 3) × (table.shared.table_id.slots ≡ 1) },
+    ghost counts: { (table.shared.table_id.words ≡ 67) × (table.shared.table_id.slots ≡ 1) },
     ghost some_seat: { 0 < table.shared.key.seats },
 }
 
@@ -96,9 +106,11 @@ impl<V: Journalled + Drop + Send> Turn<V> {
         self.table
             .shared
             .swap::<Count<V>>(&mut pass.seat, COUNTED, count);
-        self.table
+        let served = self
+            .table
             .shared
             .fetch_add::<Release<V>>(&mut pass.seat, SERVED, 1);
+        self.wake(served.wrapping_add(1));
     }
 
     /// Ends the turn, and hands the value out.
@@ -187,12 +199,34 @@ impl<V: Journalled + Drop + Send> Turn<V> {
         ensures comes_in { ComesIn V.entries V.maker V.about pass.old.seat.me pass.new.seat.me }
     {
         for _ in rt.forever() {
-            if self.look(pass, ticket) == ticket {
+            let served = self.look(pass, ticket);
+            if served == ticket {
                 return;
             }
-            thread::yield_now();
+            self.sleep(rt, ticket, served);
         }
         unreachable!()
+    }
+
+    // Sleeps between two looks. Near its turn a pass sleeps on the word of the served tickets, and not at all where that
+    // has changed since the look, so no wake is lost. Else it sleeps in its bed, where it is left alone until its turn.
+    // No step changes a bed, so a wake may come before the sleep: a short limit makes up for it.
+    fn sleep<R: Wait>(&self, rt: &R, ticket: u64, served: u64) {
+        let shared = &self.table.shared;
+        if ticket.wrapping_sub(served) <= NEAR {
+            shared.park(rt, SERVED, (served & LOW_HALF) as u32);
+        } else {
+            shared.park_timeout(rt, bed(ticket), 0, Duration::from_millis(NAP));
+        }
+    }
+
+    // Wakes the pass whose ticket is served, and those near it. Where that ticket isn't given yet, none sleeps.
+    fn wake(&self, served: u64) {
+        let shared = &self.table.shared;
+        if shared.peek(GIVEN) != served {
+            shared.wake_all(SERVED);
+            shared.wake_one(bed(served));
+        }
     }
 
     // Takes the value out of the slot.
@@ -250,4 +284,11 @@ impl<V: Journalled + Drop + Send> Turn<V> {
         }
         last
     }
+}
+
+// The word that the pass with this ticket sleeps on while it isn't near its turn.
+fn bed(ticket: u64) -> usize
+    ensures { result < 67 }
+{
+    BEDS + (ticket % BED_COUNT) as usize
 }

@@ -12,8 +12,8 @@ swap-requires g c =
     let grows' = subst (λ l. GoesOnBy g.V.Journalled.maker after.number l (g.V.Journalled.entries c.args.value)) (ap (λ v. v.seen) (sym has.1)) grows in
     (c.give.ensures.same.table ∙ own.0, search rules, counts _ _ _ _ _ _ _ _ c.args.value _ has.0.0 has.0.1 grows' c.count-count.ensures)
 
-pub fetch_add-requires : goal.fetch_add-requires
-fetch_add-requires g c =
+pub fetch_add-served-requires : goal.fetch_add-served-requires
+fetch_add-served-requires g c =
     let has = c.give.ensures.has in let own = c.requires.own in
     let told = c.swap.ensures.2 c.args.value has.0.1 in (
       c.swap.ensures.0 ∙ (c.give.ensures.same.table ∙ own.0),
