@@ -2,13 +2,19 @@
 #![tactic(auto)]
 
 mod declared;
+mod depths;
 mod equality;
+mod keys;
 mod op;
+mod sendability;
 #[cfg(test)]
 mod tests;
 mod value_type;
 
 pub use declared::{Declared, Member, Members, OverlayField, OverlayFields, TypeTable};
+pub use depths::depth;
 pub use equality::same;
+pub use keys::is_key;
 pub use op::Op;
+pub use sendability::is_sendable;
 pub use value_type::{Inner, ValueType, ValueTypes};

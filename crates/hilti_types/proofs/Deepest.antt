@@ -1,0 +1,54 @@
+-- The greatest of the depths of some parts, found one after another.
+use Rattle.std.proofs.Common.{◌≡◌, sym, ◌∙◌, ap, ℕ, zero, suc, ◌+◌, ◌<◌, ◌≤◌, max, List, [], ◌∷◌, length, map, take, get_or, Some, arith}
+use Rattle.std.specs.List.{fold, slice_get}
+use Rattle.std.specs.Option.{unwrap_or}
+use Rattle.std.proofs.lemmas.List.{take_all}
+use Rattle.std.proofs.lemmas.List.Folds.{fold-map}
+use Rattle.std.proofs.lemmas.List.Sums.{fold_more}
+use Rattle.hilti_types.specs.Depths.{greatest, depth_over, depths, declared_depth}
+use Rattle.hilti_types.specs.declared.declared.Declared.{Declared}
+use Rattle.hilti_types.specs.declared.declared.Declared.TheVariants.{Struct}
+use Rattle.hilti_types.specs.declared.declared.Member.{Member}
+use Rattle.hilti_types.proofs.InTurn.{told_at}
+
+module _ {X : Type 0} (depth : X → ℕ) where
+  abbrev pub deepest_of : List X → ℕ
+  deepest_of parts = greatest (map depth parts)
+
+  -- the greatest so far, and that of a further part
+  pub deepest_more : (parts : List X) (at : ℕ) (part : X) → at < length parts → part ≡ get_or parts at part
+      → deepest_of (take (at + 1) parts) ≡ max (deepest_of (take at parts)) (depth part)
+  deepest_more parts at part below is =
+      let so_far = fold-map max depth 0 (take at parts) in
+      fold-map max depth 0 (take (at + 1) parts)
+      ∙ fold_more (λ deepest part. max deepest (depth part)) 0 parts at part below
+      ∙ ap (λ part. max (fold (λ deepest part. max deepest (depth part)) 0 (take at parts)) (depth part)) (sym is)
+      ∙ ap (λ deepest. max deepest (depth part)) (sym so_far)
+
+  grows : (from : ℕ) (parts : List X) → from ≤ fold max from (map depth parts)
+  grows from [] = omega arith
+  grows from (part ∷ more) = omega (arith, grows (max from (depth part)) more)
+
+  above_each : (from : ℕ) (parts : List X) (at : ℕ) (part : X) → at < length parts
+      → depth (get_or parts at part) ≤ fold max from (map depth parts)
+  above_each from [] at part below = absurd (omega arith)
+  above_each from (first ∷ more) zero part below = omega (arith, grows (max from (depth first)) more)
+  above_each from (first ∷ more) (suc at) part below = above_each (max from (depth first)) more at part (omega arith)
+
+  -- no part is deeper than the deepest
+  pub none_deeper : (all items : List X) (at : ℕ) (part : X) → items ≡ all → at < length items
+      → part ≡ get_or items at part → depth part ≤ deepest_of all
+  none_deeper all items at part same below is =
+      omega (arith, above_each 0 items at part below, ap depth is, ap deepest_of same)
+
+  -- past the last part
+  pub deepest_at_end : (all items : List X) (at : ℕ) → items ≡ all → length items ≤ at
+      → deepest_of (take at items) ≡ deepest_of all
+  deepest_at_end all items at same past = ap deepest_of (take_all at items past ∙ same)
+
+-- the depth of a struct of the table, by the depths of its fields over the types declared before it
+pub struct_depth : (types : List Declared) (at : ℕ) (name : List ℕ) (fields : List Member)
+    → slice_get types at ≡ Some (Struct name fields)
+    → unwrap_or (slice_get (depths types) at) 1
+    ≡ 1 + greatest (map (λ field. depth_over (depths (take at types)) field.kind) fields)
+struct_depth types at name fields is = ap (λ told. unwrap_or told 1) (told_at declared_depth types at (Struct name fields) is)

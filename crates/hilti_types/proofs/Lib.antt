@@ -1,0 +1,4 @@
+pub mod Deepest
+pub mod InTurn
+pub mod Parts
+pub mod Weights

@@ -1,0 +1,4 @@
+pub mod Depths
+pub mod InTurn
+pub mod Keys
+pub mod Sendable
