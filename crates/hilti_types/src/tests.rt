@@ -91,14 +91,6 @@ fn list(alloc: Global, item: ValueType) -> Result<ValueType, NoMemory> {
     }))
 }
 
-/// `ref<map<KEY, VALUE>>`.
-fn map(alloc: Global, key: ValueType, value: ValueType) -> Result<ValueType, NoMemory> {
-    Ok(reference(Inner::Map {
-        key: Boxed::new(alloc, key)?,
-        value: Boxed::new(alloc, value)?,
-    }))
-}
-
 #[test]
 fn keys_are_sendable(rt: HostRuntime) -> Result<(), Fail> {
     let types = table(rt.alloc())?;
@@ -125,93 +117,54 @@ fn keys_are_sendable(rt: HostRuntime) -> Result<(), Fail> {
 #[test]
 fn references_are_no_keys(rt: HostRuntime) -> Result<(), Fail> {
     let types = table(rt.alloc())?;
-    let sent = [
-        reference(Inner::Struct { n: 0 }),
-        reference(Inner::Struct { n: 2 }),
-        list(rt.alloc(), ValueType::Text)?,
-        reference(Inner::Vector {
-            item: Boxed::new(rt.alloc(), ValueType::Time)?,
-        }),
-        reference(Inner::Set {
-            item: Boxed::new(rt.alloc(), ValueType::Addr)?,
-        }),
-        map(rt.alloc(), ValueType::Port, ValueType::Bytes)?,
-        reference(Inner::Classifier {
-            rule: Boxed::new(
-                rt.alloc(),
-                pair(rt.alloc(), ValueType::Net, ValueType::Port)?,
-            )?,
-            value: Boxed::new(rt.alloc(), ValueType::Bool)?,
-        }),
-        pair(
-            rt.alloc(),
-            ValueType::Bool,
-            reference(Inner::Struct { n: 0 }),
-        )?,
-    ];
-    for t in &sent {
-        assert!(rt; !is_key(&types, t));
-        assert!(rt; is_sendable(&types, t));
-    }
+    assert!(rt; is_sendable(&types, &reference(Inner::Struct { n: 0 })));
+    assert!(rt; is_sendable(&types, &reference(Inner::Struct { n: 2 })));
+    assert!(rt; !is_key(&types, &reference(Inner::Struct { n: 2 })));
+    assert!(rt; is_sendable(&types, &list(rt.alloc(), ValueType::Text)?));
     Ok(())
 }
 
 #[test]
 fn what_stays(rt: HostRuntime) -> Result<(), Fail> {
     let types = table(rt.alloc())?;
-    let stay = [
-        ValueType::Callable,
-        ValueType::Iter {
-            over: Inner::List {
-                item: Boxed::new(rt.alloc(), ValueType::Bool)?,
-            },
-        },
-        reference(Inner::Timer),
-        reference(Inner::Manager),
-        reference(Inner::Struct { n: 3 }),
-        list(rt.alloc(), ValueType::Callable)?,
-        map(rt.alloc(), ValueType::Port, reference(Inner::Timer))?,
-        pair(rt.alloc(), ValueType::Bool, ValueType::Callable)?,
-    ];
-    for t in &stay {
-        assert!(rt; !is_key(&types, t));
-        assert!(rt; !is_sendable(&types, t));
-    }
+    assert!(rt; !is_sendable(&types, &ValueType::Callable));
+    assert!(rt; !is_key(&types, &ValueType::Callable));
+    assert!(rt; !is_sendable(&types, &reference(Inner::Timer)));
+    assert!(rt; !is_sendable(&types, &reference(Inner::Manager)));
+    assert!(rt; !is_sendable(&types, &reference(Inner::Struct { n: 3 })));
+    Ok(())
+}
+
+#[test]
+fn parts_stay(rt: HostRuntime) -> Result<(), Fail> {
+    let types = table(rt.alloc())?;
+    let over = Inner::List {
+        item: Boxed::new(rt.alloc(), ValueType::Bool)?,
+    };
+    assert!(rt; !is_sendable(&types, &ValueType::Iter { over }));
+    assert!(rt; !is_sendable(&types, &list(rt.alloc(), ValueType::Callable)?));
     Ok(())
 }
 
 #[test]
 fn depths_count_levels(rt: HostRuntime) -> Result<(), Fail> {
-    let types = table(rt.alloc())?;
+    let types = TypeTable::new(rt.alloc());
     assert!(rt; depth(&types, &ValueType::Callable) == 1);
-    assert!(rt; depth(&types, &ValueType::Enum { n: 1 }) == 1);
-    assert!(rt; depth(&types, &reference(Inner::Manager)) == 1);
-    assert!(rt;
-        depth(
-            &types,
-            &list(rt.alloc(), list(rt.alloc(), ValueType::Bool)?)?
-        ) == 3
-    );
-    assert!(rt;
-        depth(
-            &types,
-            &map(
-                rt.alloc(),
-                ValueType::Port,
-                list(rt.alloc(), ValueType::Bool)?
-            )?
-        ) == 3
-    );
-    let over = Inner::Set {
-        item: Boxed::new(rt.alloc(), ValueType::Bool)?,
+    let manager = ValueType::Ref { to: Inner::Manager };
+    assert!(rt; depth(&types, &manager) == 1);
+    let item = Boxed::new(rt.alloc(), ValueType::Bool)?;
+    let booleans = ValueType::Ref {
+        to: Inner::List { item },
     };
-    assert!(rt; depth(&types, &ValueType::Iter { over }) == 3);
-    assert!(rt; depth(&types, &reference(Inner::Struct { n: 0 })) == 2);
-    assert!(rt; depth(&types, &reference(Inner::Struct { n: 2 })) == 3);
-    let mut nested = ValueType::Bool;
-    for _ in 0..16 {
-        nested = list(rt.alloc(), nested)?;
-    }
-    assert!(rt; depth(&types, &nested) == 17);
+    assert!(rt; depth(&types, &booleans) == 2);
+    let item = Boxed::new(rt.alloc(), booleans)?;
+    assert!(rt;
+        depth(
+            &types,
+            &ValueType::Iter {
+                over: Inner::Vector { item }
+            }
+        ) == 4
+    );
     Ok(())
 }
