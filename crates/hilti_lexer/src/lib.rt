@@ -1,9 +1,6 @@
-//! The tokens of module texts, each with its place, or the first place where none begins.
-//!
-//! Spaces, tabs and carriage returns separate tokens. `#` begins a comment, which goes on to the line's end. The byte
-//! `0a` is a token. At each place stands the longest token: a word, a numeral (a number in decimal or hexadecimal
-//! digits, a number of seconds with a fraction, an IPv4 address, a net of such addresses, or a port), a string, a
-//! bytes literal (a string with a `b` directly before it), or a mark.
+//! The tokens of module texts, each with its place, or the first place where none begins: words, numerals (numbers in
+//! decimal or hexadecimal digits, seconds with a fraction, IPv4 addresses, nets of them, and ports), strings, bytes
+//! literals, marks and line ends (`0a`), the longest at each place, between blanks and comments (`#` to the line's end).
 #![tactic(auto)]
 
 mod beginning;
