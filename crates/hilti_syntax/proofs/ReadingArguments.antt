@@ -1,0 +1,118 @@
+-- Lemmas for the readers of arguments and shapes.
+use Rattle.std.proofs.Common.{◌≡◌, ◌<◌, length, arith, Bool, true, false, List, [], ◌∷◌, get_or, refl, sym, ◌∙◌, ap, subst, eqb}
+use Rattle.std.proofs.lemmas.Bool.{eqb-true}
+use Rattle.std.specs.Prelude.{Result, Ok, Err, ◌||◌, IfOk}
+use Rattle.hilti_grammar.specs.Grammar.{Symbol.Rule, has, sees}
+use Rattle.hilti_grammar.specs.Predictive.{known}
+use Rattle.hilti_grammar.specs.Reads.{separated}
+use Rattle.hilti_grammar.specs.Runs.{Outcome, Runs.GivesUp, Runs.Follows, Runs.ToLeft}
+use Rattle.hilti_lexer.specs.declared.token.Token.{Token}
+use Rattle.hilti_syntax.specs.declared.kind.Kind.{Kind}
+use Rattle.hilti_syntax.specs.declared.kind.Kind.TheVariants as kinds
+use Rattle.hilti_syntax.specs.declared.module.Parameter.{Parameter}
+use Rattle.hilti_syntax.specs.declared.piece.Piece.{Piece}
+use Rattle.hilti_syntax.specs.declared.stop.Stop.{Stop}
+use Rattle.hilti_syntax.specs.Items.{parameters_tree, inside_tree}
+use Rattle.hilti_syntax.specs.Kinds.{kind_number}
+use Rattle.hilti_syntax.specs.Modules.{RuleName.Params as parameters, grammar, told_rules, typed_word, comma, maybe}
+use Rattle.hilti_syntax.specs.Readers.{ReadsTree}
+use Rattle.hilti_syntax.proofs.Exits.{Goes}
+
+-- the words that begin types
+abbrev pub type_words : List Kind
+type_words = kinds.Word ∷ kinds.At ∷ kinds.Unpack ∷ kinds.Priority ∷ kinds.BytesForm ∷ kinds.Ref ∷ kinds.Iterator ∷ kinds.Tuple ∷ kinds.Int ∷ kinds.Bool ∷ kinds.String ∷ kinds.Bytes ∷ kinds.Addr ∷ kinds.Net ∷ kinds.Port ∷ kinds.Time ∷ kinds.Interval ∷ kinds.Callable ∷ []
+
+first_types : (told_rules parameters).first ≡ type_words
+unfolding told_rules
+first_types = refl
+
+pub sees_types : (pieces : List Piece) (b : Bool) → sees grammar type_words pieces ≡ b → sees grammar (known grammar told_rules (Rule parameters)).first pieces ≡ b
+sees_types pieces b h = subst (λ set. sees grammar set pieces ≡ b) (sym first_types) h
+
+-- what is read by a rule is read by its body
+pub unfollowed : (before : List Piece) (out : Outcome Stop Token Piece) → Goes (Rule parameters) before out → Goes (separated typed_word comma) before out
+unfollowed before _ (GivesUp h) = GivesUp h
+unfollowed before _ (Follows d) = d
+
+-- parameters that are there
+pub inside_some : (before after : List Piece) (r : Result (List Parameter) Stop) → IfOk r (λ found. 0 < length found) →
+    sees grammar (known grammar told_rules (Rule parameters)).first before ≡ true → ReadsTree (Rule parameters) parameters_tree before r after → ReadsTree (maybe (Rule parameters)) inside_tree before r after
+inside_some before after (Ok []) some seen d = let none : 0 < 0 = some in absurd (omega arith)
+inside_some before after (Ok (first ∷ more)) some seen d = ToLeft seen d
+inside_some before after (Err e) some seen d = ToLeft seen d
+
+-- kinds of one number are one kind
+all_kinds : List Kind
+all_kinds = kinds.Module ∷ kinds.Type ∷ kinds.Global ∷ kinds.Hook ∷ kinds.Local ∷ kinds.Catch ∷ kinds.Void ∷ kinds.Struct ∷ kinds.Enum ∷ kinds.Overlay ∷ kinds.Exception ∷ kinds.Bool ∷ kinds.Int ∷ kinds.String ∷ kinds.Bytes ∷ kinds.Addr ∷ kinds.Net ∷ kinds.Port ∷ kinds.Time ∷ kinds.Interval ∷ kinds.Callable ∷ kinds.Tuple ∷ kinds.Iterator ∷ kinds.Ref ∷ kinds.Timer ∷ kinds.TimerMgr ∷ kinds.List ∷ kinds.Vector ∷ kinds.Set ∷ kinds.Map ∷ kinds.Classifier ∷ kinds.True ∷ kinds.False ∷ kinds.Null ∷ kinds.At ∷ kinds.Unpack ∷ kinds.Priority ∷ kinds.BytesForm ∷ kinds.Word ∷ kinds.Number ∷ kinds.Decimal ∷ kinds.Address ∷ kinds.NetNumber ∷ kinds.PortNumber ∷ kinds.Text ∷ kinds.BytesText ∷ kinds.OpenBrace ∷ kinds.CloseBrace ∷ kinds.OpenParen ∷ kinds.CloseParen ∷ kinds.Less ∷ kinds.Greater ∷ kinds.Comma ∷ kinds.Colon ∷ kinds.Scope ∷ kinds.Dot ∷ kinds.Equals ∷ kinds.AtSign ∷ kinds.Star ∷ kinds.LineEnd ∷ kinds.DeepLess ∷ []
+
+in_place : (kind : Kind) → get_or all_kinds (kind_number kind) kinds.DeepLess ≡ kind
+unfolding all_kinds
+in_place kinds.Module = refl
+in_place kinds.Type = refl
+in_place kinds.Global = refl
+in_place kinds.Hook = refl
+in_place kinds.Local = refl
+in_place kinds.Catch = refl
+in_place kinds.Void = refl
+in_place kinds.Struct = refl
+in_place kinds.Enum = refl
+in_place kinds.Overlay = refl
+in_place kinds.Exception = refl
+in_place kinds.Bool = refl
+in_place kinds.Int = refl
+in_place kinds.String = refl
+in_place kinds.Bytes = refl
+in_place kinds.Addr = refl
+in_place kinds.Net = refl
+in_place kinds.Port = refl
+in_place kinds.Time = refl
+in_place kinds.Interval = refl
+in_place kinds.Callable = refl
+in_place kinds.Tuple = refl
+in_place kinds.Iterator = refl
+in_place kinds.Ref = refl
+in_place kinds.Timer = refl
+in_place kinds.TimerMgr = refl
+in_place kinds.List = refl
+in_place kinds.Vector = refl
+in_place kinds.Set = refl
+in_place kinds.Map = refl
+in_place kinds.Classifier = refl
+in_place kinds.True = refl
+in_place kinds.False = refl
+in_place kinds.Null = refl
+in_place kinds.At = refl
+in_place kinds.Unpack = refl
+in_place kinds.Priority = refl
+in_place kinds.BytesForm = refl
+in_place kinds.Word = refl
+in_place kinds.Number = refl
+in_place kinds.Decimal = refl
+in_place kinds.Address = refl
+in_place kinds.NetNumber = refl
+in_place kinds.PortNumber = refl
+in_place kinds.Text = refl
+in_place kinds.BytesText = refl
+in_place kinds.OpenBrace = refl
+in_place kinds.CloseBrace = refl
+in_place kinds.OpenParen = refl
+in_place kinds.CloseParen = refl
+in_place kinds.Less = refl
+in_place kinds.Greater = refl
+in_place kinds.Comma = refl
+in_place kinds.Colon = refl
+in_place kinds.Scope = refl
+in_place kinds.Dot = refl
+in_place kinds.Equals = refl
+in_place kinds.AtSign = refl
+in_place kinds.Star = refl
+in_place kinds.LineEnd = refl
+in_place kinds.DeepLess = refl
+
+told_apart : (b : Bool) → b || false ≡ true → b ≡ true
+told_apart true h = refl
+told_apart false h = h
+
+pub only : (kind other : Kind) → has grammar (kind ∷ []) other ≡ true → other ≡ kind
+only kind other h =
+    sym (in_place other) ∙ (ap (λ n. get_or all_kinds n kinds.DeepLess) (sym (eqb-true _ _ (told_apart (eqb (kind_number kind) (kind_number other)) h))) ∙ in_place kind)

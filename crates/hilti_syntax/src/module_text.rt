@@ -1,0 +1,73 @@
+//! The reader of a module's whole text.
+ghost use Rattle.std.specs.Prelude.{◌≡◌, ◌≤◌, ℕ, List, length, IsTrue, IfOk, Err};
+ghost use Rattle.hilti_grammar.specs.Grammar.{Symbol.Rule};
+ghost use Rattle.hilti_base.specs.declared.names.Place.{Place};
+ghost use Rattle.hilti_lexer.specs.declared.token.Token.{Token as AToken};
+ghost use Rattle.hilti_syntax.specs.declared.stop.Stop.{Stop};
+ghost use Rattle.hilti_syntax.specs.Items.{module_tree};
+ghost use Rattle.hilti_syntax.specs.Modules.{RuleName.ModuleText as a_module};
+ghost use Rattle.hilti_syntax.specs.Pieces.{pieces_of};
+ghost use Rattle.hilti_syntax.specs.Readers.{ReadsTree, refuses};
+ghost use Rattle.hilti_syntax.specs.Refusals.{FirstRefused, first_place};
+ghost use Rattle.hilti_syntax.specs.Texts.{AreModule, TextIsModule, TextRefused, code_of_stop};
+
+use crate::cursor::Cursor;
+use crate::kind::Kind;
+use crate::module::Module;
+use crate::piece_list::end_place;
+use crate::read_items::read_items;
+use crate::stop::Stop;
+use hilti_base::{Place, Refusal};
+use hilti_lexer::lex;
+use std::alloc::Global;
+
+/// Reads the text of a module. It is refused with the code of the lexer's fault, 10 at a token that the grammar doesn't
+/// allow, its end counted as one, and 11 at a `<` with 64 others open. `NoMemory` may come at any token. It takes time
+/// in proportion to the text.
+pub fn read_module(alloc: Global, file: u32, text: &[u8]) -> Result<Module, Refusal>
+    requires { length text.now ≤ 1048576 }
+    ensures module { IfOk result (λ m. TextIsModule file text.now m) }
+    ensures refusal { (place : Place) (code : ℕ) → result ≡ Err (Refusal.At place code) → TextRefused file text.now code place }
+{
+    let tokens = lex(alloc, file, text)?;
+    let end = end_place(file, text);
+    let mut cursor = Cursor::new(alloc, tokens, end)?;
+    match read_all(&mut cursor) {
+        Ok(module) => Ok(module),
+        Err(stop) => Err(refusal_at(stop, cursor.next_place(end))),
+    }
+}
+
+/// Reads all tokens as a module.
+fn read_all(cursor: &mut Cursor) -> Result<Module, Stop>
+    ensures module { (tokens : List AToken) (end : Place) → cursor.old ≡ pieces_of tokens end → IfOk result (λ m. AreModule tokens end m) }
+    ensures refusal { (tokens : List AToken) (end : Place) (stop : Stop) → cursor.old ≡ pieces_of tokens end → result ≡ Err stop → IsTrue (refuses stop) → FirstRefused tokens end stop (first_place cursor.new end) }
+{
+    let module = read_whole(cursor)?;
+    if !cursor.is_at_end() {
+        return Err(Stop::Unexpected);
+    }
+    Ok(module)
+}
+
+/// Reads a module and leaves what is behind it.
+fn read_whole(cursor: &mut Cursor) -> Result<Module, Stop>
+    ensures { ReadsTree (Rule a_module) module_tree cursor.old result cursor.new }
+{
+    cursor.skip(Kind::Module)?;
+    let name = cursor.word()?;
+    cursor.skip(Kind::LineEnd)?;
+    let items = read_items(cursor)?;
+    Ok(Module { name, items })
+}
+
+/// The refusal of tokens where reading stopped.
+fn refusal_at(stop: Stop, place: Place) -> Refusal
+    ensures { (there : Place) (code : ℕ) → result ≡ Refusal.At there code → IsTrue (refuses stop) × (there ≡ place) × (code ≡ code_of_stop stop) }
+{
+    match stop {
+        Stop::Unexpected => Refusal::At { place, code: 10 },
+        Stop::TooDeep => Refusal::At { place, code: 11 },
+        Stop::NoMemory => Refusal::NoMemory,
+    }
+}
