@@ -1,4 +1,8 @@
+pub mod AtLeast
+pub mod Bounds
 pub mod Chosen
+pub mod CountExamples
+pub mod Counting
 pub mod Exits
 pub mod Firsts
 pub mod Gathering

@@ -36,17 +36,11 @@ mod surroundings;
 mod tests;
 mod types;
 
-pub use cursor::Cursor;
-pub use keyword::Keyword;
-pub use kind::Kind;
 pub use module::{
     Bits, Body, Field, Fields, Form, Handler, Handlers, Item, Items, Line, Lines, Literal,
     Mnemonic, Module, Operand, Operands, Parameter, Parameters, Seconds, Shape, Simple, Simples,
 };
 pub use module_text::read_module;
-pub use piece::Piece;
-pub use piece_list::{end_place, pieces};
-pub use stop::Stop;
 pub use types::{
     Container, Double, InnerText, Name, Number, Parametric, PlainInner, PlainType, Single,
     TypeText, TypeTexts, Word, Words,

@@ -1,14 +1,19 @@
 //! The tree of a module: one type for each production of its grammar.
+ghost use Rattle.std.specs.Prelude.{◌≤◌};
+ghost use Rattle.hilti_syntax.specs.Counts.{module_count};
+
 use crate::types::{
     Container, Name, Number, Parametric, PlainInner, PlainType, TypeText, Word, Words,
 };
 use hilti_base::{Blob, Collection, Place};
 
-/// A module: its name, and its items in order.
+/// A module: its name, and its items in order. It has at most 1,048,576 items, fields, constants, parameters, locals,
+/// labels, handlers, lines and operands in all.
 #[derive(Debug, Drop)]
 pub struct Module {
     pub name: Word,
     pub items: Items,
+    ghost bounded: { module_count items ≤ 1048576 },
 }
 
 /// Items in order.

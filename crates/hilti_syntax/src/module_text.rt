@@ -38,8 +38,9 @@ pub fn read_module(alloc: Global, file: u32, text: &[u8]) -> Result<Module, Refu
     }
 }
 
-/// Reads all tokens as a module.
+/// Reads all tokens as a module. They are at most 1,048,577: one for each byte of the longest text, and its end.
 fn read_all(cursor: &mut Cursor) -> Result<Module, Stop>
+    requires { length cursor.old ≤ 1048577 }
     ensures module { (tokens : List AToken) (end : Place) → cursor.old ≡ pieces_of tokens end → IfOk result (λ m. AreModule tokens end m) }
     ensures refusal { (tokens : List AToken) (end : Place) (stop : Stop) → cursor.old ≡ pieces_of tokens end → result ≡ Err stop → IsTrue (refuses stop) → FirstRefused tokens end stop (first_place cursor.new end) }
 {
@@ -50,8 +51,9 @@ fn read_all(cursor: &mut Cursor) -> Result<Module, Stop>
     Ok(module)
 }
 
-/// Reads a module and leaves what is behind it.
+/// Reads a module from at most 1,048,577 tokens, and leaves what is behind it.
 fn read_whole(cursor: &mut Cursor) -> Result<Module, Stop>
+    requires { length cursor.old ≤ 1048577 }
     ensures { ReadsTree (Rule a_module) module_tree cursor.old result cursor.new }
 {
     cursor.skip(Kind::Module)?;

@@ -1,4 +1,5 @@
-use super::*;
+use crate::kind::Kind;
+use crate::piece_list::{end_place, pieces};
 use hilti_base::{Blob, Place};
 use hilti_lexer::{Token, TokenKind, Tokens};
 use std::test::Fail;

@@ -1,4 +1,5 @@
 use Rattle.hilti_grammar.specs.Runs.{Runs.FirstFails, Runs.Then, Runs.Follows}
+use Rattle.hilti_syntax.proofs.Bounds.{module_within}
 use Rattle.hilti_syntax.proofs.Exits.{exits}
 use Rattle.hilti_syntax.proofs.module_text.read_whole.Goals as goal
 
@@ -24,3 +25,9 @@ returns-in_err-items c =
 
 pub returns : goal.returns
 returns c = Follows (Then c.in_ok-skip.ensures.reads (Then c.in_ok-name.ensures.reads (Then c.in_ok-skip-2.ensures.reads c.in_ok-items.ensures.reads)))
+
+pub invariant_of-result : goal.invariant_of-result
+invariant_of-result c = record {
+  bounded = module_within c.in_ok-name.name c.in_ok-items.items c.args.cursor.now c.read_items.new.cursor 1048576 c.requires
+      (Follows (Then c.in_ok-skip.ensures.reads (Then c.in_ok-name.ensures.reads (Then c.in_ok-skip-2.ensures.reads c.in_ok-items.ensures.reads))));
+}
