@@ -1,0 +1,13 @@
+pub mod Equal
+pub mod Fits
+pub mod Items
+pub mod Lines
+pub mod Literals
+pub mod Modules
+pub mod Operands
+pub mod Refused
+pub mod Sequences
+pub mod Shapes
+pub mod Simples
+pub mod Spots
+pub mod Types

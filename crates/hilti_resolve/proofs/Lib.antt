@@ -1,0 +1,5 @@
+pub mod Firsts
+pub mod SameParts
+pub mod Says
+pub mod Together
+mod Widths

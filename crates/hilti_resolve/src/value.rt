@@ -1,0 +1,202 @@
+//! The types that written types stand for, where these keep the rules of types.
+ghost use Rattle.std.specs.Prelude.{◌≡◌, Err, Ok, IfOk, map};
+ghost use Rattle.hilti_base.specs.declared.names.Place.{Place as APlace};
+ghost use Rattle.hilti_scope.specs.Scopes.{means};
+ghost use Rattle.hilti_resolve.specs.declared.fault.TypeFault.TheVariants.{Broken};
+ghost use Rattle.hilti_resolve.specs.Values.{all_of, value_of as value_told, parametric_value_of, inner_value_of, container_value_of, single_value as single_told, both_value as both_told};
+
+use crate::fault::TypeFault;
+use crate::inner_value::InnerValue;
+use crate::rules::{
+    inner_word, int_value, is_tuple, iterator_value, named_inner, named_value, plain_value,
+    reference_value, tuple_value,
+};
+use hilti_base::Place;
+use hilti_scope::Scope;
+use hilti_syntax::{Container, Double, InnerText, Parametric, Single, TypeText, TypeTexts};
+use hilti_types::{Inner, TypeTable, ValueType, ValueTypes, is_key};
+use sqlite_items::Boxed;
+use std::alloc::Global;
+
+/// The type that a written type stands for.
+#[cycle(value)]
+pub fn value_of(
+    alloc: Global,
+    scope: &Scope<'_>,
+    table: &TypeTable,
+    text: &TypeText,
+) -> Result<ValueType, TypeFault>
+    ensures kind { IfOk result (λ kind. value_told table.now (means scope.now) text.now ≡ Ok kind) }
+    ensures broken { (place : APlace) → result ≡ Err (Broken place) → value_told table.now (means scope.now) text.now ≡ Err place }
+{
+    match text {
+        TypeText::Plain { place: _, plain } => Ok(plain_value(*plain)),
+        TypeText::Parametric(parametric) => {
+            Ok(parametric_value(alloc, scope, table, parametric)?)
+        }
+        TypeText::Named(name) => Ok(named_value(scope.meaning(name), name.first.place)?),
+    }
+}
+
+/// The same of a type with something between `<` and `>`.
+#[cycle(value)]
+pub fn parametric_value(
+    alloc: Global,
+    scope: &Scope<'_>,
+    table: &TypeTable,
+    parametric: &Parametric,
+) -> Result<ValueType, TypeFault>
+    ensures kind { IfOk result (λ kind. parametric_value_of table.now (means scope.now) parametric.now ≡ Ok kind) }
+    ensures broken { (place : APlace) → result ≡ Err (Broken place) → parametric_value_of table.now (means scope.now) parametric.now ≡ Err place }
+{
+    match parametric {
+        Parametric::Int { place, bits } => Ok(int_value(*place, bits.value)?),
+        Parametric::Tuple { place, parts } => {
+            let values = part_values(alloc, scope, table, parts)?;
+            Ok(tuple_value(*place, values)?)
+        }
+        Parametric::Iterator { place, over } => {
+            let container = inner_value(alloc, scope, table, over)?;
+            Ok(iterator_value(*place, container)?)
+        }
+        Parametric::Ref { place, to } => {
+            let object = inner_value(alloc, scope, table, to)?;
+            Ok(reference_value(*place, object)?)
+        }
+    }
+}
+
+/// The types of the parts of a tuple.
+#[cycle(value)]
+fn part_values(
+    alloc: Global,
+    scope: &Scope<'_>,
+    table: &TypeTable,
+    parts: &TypeTexts,
+) -> Result<ValueTypes, TypeFault>
+    ensures kinds { IfOk result (λ kinds. all_of (map (value_told table.now (means scope.now)) parts.now) ≡ Ok kinds) }
+    ensures broken { (place : APlace) → result ≡ Err (Broken place) → all_of (map (value_told table.now (means scope.now)) parts.now) ≡ Err place }
+{
+    let mut values = ValueTypes::new(alloc);
+    for part in parts.as_slice() {
+        let value = value_of(alloc, scope, table, part)?;
+        values.push(value)?;
+    }
+    Ok(values)
+}
+
+/// What stands for what is between the `<` and `>` of a reference or an iterator.
+#[cycle(value)]
+fn inner_value(
+    alloc: Global,
+    scope: &Scope<'_>,
+    table: &TypeTable,
+    inner: &InnerText,
+) -> Result<InnerValue, TypeFault>
+    ensures object { IfOk result (λ object. inner_value_of table.now (means scope.now) inner.now ≡ Ok object) }
+    ensures broken { (place : APlace) → result ≡ Err (Broken place) → inner_value_of table.now (means scope.now) inner.now ≡ Err place }
+{
+    match inner {
+        InnerText::Word { place: _, word } => Ok(inner_word(*word)),
+        InnerText::Container(container) => {
+            let object = container_value(alloc, scope, table, container)?;
+            Ok(InnerValue::Object(object))
+        }
+        InnerText::Declared(name) => Ok(named_inner(scope.meaning(name), name.first.place)?),
+    }
+}
+
+/// The type of an object that a written container stands for.
+#[cycle(value)]
+pub fn container_value(
+    alloc: Global,
+    scope: &Scope<'_>,
+    table: &TypeTable,
+    container: &Container,
+) -> Result<Inner, TypeFault>
+    ensures object { IfOk result (λ object. container_value_of table.now (means scope.now) container.now ≡ Ok object) }
+    ensures broken { (place : APlace) → result ≡ Err (Broken place) → container_value_of table.now (means scope.now) container.now ≡ Err place }
+{
+    match container {
+        Container::Single {
+            place,
+            single,
+            item,
+        } => {
+            let kind = value_of(alloc, scope, table, item.get())?;
+            Ok(single_value(alloc, table, *place, *single, kind)?)
+        }
+        Container::Double {
+            place,
+            double,
+            first,
+            second,
+        } => {
+            let first_kind = value_of(alloc, scope, table, first.get())?;
+            let second_kind = value_of(alloc, scope, table, second.get())?;
+            Ok(both_value(alloc, table, *place, *double, first_kind, second_kind)?)
+        }
+    }
+}
+
+/// A container of one type; the elements of a set are of a key type.
+fn single_value(
+    alloc: Global,
+    table: &TypeTable,
+    place: Place,
+    single: Single,
+    kind: ValueType,
+) -> Result<Inner, TypeFault>
+    ensures object { IfOk result (λ object. single_told table.now place single (Ok kind) ≡ Ok object) }
+    ensures broken { (at : APlace) → result ≡ Err (Broken at) → single_told table.now place single (Ok kind) ≡ Err at }
+{
+    match single {
+        Single::List => {
+            let item = Boxed::new(alloc, kind)?;
+            Ok(Inner::List { item })
+        }
+        Single::Vector => {
+            let item = Boxed::new(alloc, kind)?;
+            Ok(Inner::Vector { item })
+        }
+        Single::Set => {
+            if !is_key(table, &kind) {
+                return Err(TypeFault::Broken { place });
+            }
+            let item = Boxed::new(alloc, kind)?;
+            Ok(Inner::Set { item })
+        }
+    }
+}
+
+/// A container of two types; the keys of a map are of a key type, and a rule of a classifier is a tuple of key types.
+fn both_value(
+    alloc: Global,
+    table: &TypeTable,
+    place: Place,
+    double: Double,
+    first: ValueType,
+    second: ValueType,
+) -> Result<Inner, TypeFault>
+    ensures object { IfOk result (λ object. both_told table.now place double first second ≡ Ok object) }
+    ensures broken { (at : APlace) → result ≡ Err (Broken at) → both_told table.now place double first second ≡ Err at }
+{
+    if !is_key(table, &first) {
+        return Err(TypeFault::Broken { place });
+    }
+    match double {
+        Double::Map => {
+            let key = Boxed::new(alloc, first)?;
+            let value = Boxed::new(alloc, second)?;
+            Ok(Inner::Map { key, value })
+        }
+        Double::Classifier => {
+            if !is_tuple(&first) {
+                return Err(TypeFault::Broken { place });
+            }
+            let rule = Boxed::new(alloc, first)?;
+            let value = Boxed::new(alloc, second)?;
+            Ok(Inner::Classifier { rule, value })
+        }
+    }
+}

@@ -1,0 +1,6 @@
+mod Behind
+mod BuiltIn
+mod Modules
+mod Positions
+mod Seeing
+mod Words
