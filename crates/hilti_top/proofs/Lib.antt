@@ -1,8 +1,10 @@
-mod Bytes
-mod Lines
+mod Exclusion
+mod Forms
 mod Named
-mod Operands
-mod Printing
+mod PacketCalls
+mod Reading
 mod Running
-mod ThreeWords
+mod Settled
+mod Shapes
 mod Typed
+mod Zips

@@ -9,11 +9,11 @@ use Rattle.hilti_core.specs.Body.{Runs, IsIdle, IsBusy, Starts, Gives}
 use Rattle.hilti_meaning.specs.Effect.{effect}
 use Rattle.hilti_fiber.specs.Threads.{Facts}
 use Rattle.hilti_pcap.specs.declared.packet.Packet.{Packet}
-use Rattle.hilti_top.specs.declared.module_text.Parameter.{Parameter}
+use Rattle.hilti_top.specs.declared.printing.Parameter.{Parameter}
 use Rattle.hilti_top.specs.Program.{packet_call}
 use Rattle.hilti_top.specs.Report.{line, call_lines}
 use Rattle.hilti_top.specs.Run.{IsMachineOf, item_line, Finishes}
-use Rattle.hilti_top.proofs.Printing.{printed, prints}
+use Rattle.hilti_top.proofs.PacketCalls.{printed, prints}
 
 -- a call that was started is in progress
 pub busy : (before after : Runs) (call : Call) → IsIdle before → Starts before call after → IsBusy after

@@ -1,5 +1,5 @@
 -- The program of a module of print lines is typed, and has its entry.
-use Rattle.std.proofs.Common.{◌≡◌, refl, ℕ, zero, suc, ◌+◌, ◌*◌, ◌<◌, ◌≤◌, cond, nat_lt, List, [], ◌∷◌, ◌++◌, length, map, Some, None, IsSomeAnd, position, flat_map, codes, sym, ◌∙◌, ap, subst, arith, lit<, length-append}
+use Rattle.std.proofs.Common.{◌≡◌, refl, zero, suc, ◌+◌, ◌<◌, cond, nat_lt, List, [], ◌∷◌, ◌++◌, length, map, Some, None, IsSomeAnd, position, sym, ◌∙◌, ap, subst, arith, lit<, length-append}
 use Rattle.std.proofs.lemmas.List.{length-map}
 use Rattle.std.proofs.lemmas.Bool.{lt-ltb}
 use Rattle.std.specs.List.{All, AllByRecursion, position_or_len}
@@ -11,25 +11,10 @@ use Rattle.hilti_program.specs.Givens.{IsGiven, IsBuilt}
 use Rattle.hilti_program.specs.Rows.{is_ending}
 use Rattle.hilti_program.specs.Typing.{IsInstruction, IsBlock, IsFunction, IsGlobal, IsTyped, HasEntry, IsShort, HasShortLists, AreShort}
 use Rattle.hilti_program.proofs.Deciding.{all_one}
-use Rattle.hilti_top.specs.declared.module_text.Parameter.{Parameter}
-use Rattle.hilti_top.specs.declared.module_text.Parameter.TheVariants.{Time, Bytes}
-use Rattle.hilti_top.specs.ModuleText.{operand, print_line, head, foot, AreOperands, IsModule, ArePrintLines}
+use Rattle.hilti_top.specs.declared.printing.Parameter.{Parameter}
+use Rattle.hilti_top.specs.declared.printing.Parameter.TheVariants.{Time, Bytes}
+use Rattle.hilti_top.specs.Printing.{AreOperands, ArePrintLines}
 use Rattle.hilti_top.specs.Program.{slot_of, print_of, return_void, body_of, function_of, parts_of}
-
--- a print line has at least 8 bytes
-line_bytes : (lines : List (List Parameter)) → 8 * length lines ≤ length (flat_map print_line lines)
-line_bytes [] = omega arith
-line_bytes (line ∷ lines) =
-    let rest = line_bytes lines in
-    let long : 8 ≤ length (print_line line) = omega (arith, length-append (codes "  print" ++ flat_map operand line) (codes "\n"), length-append (codes "  print") (flat_map operand line)) in
-    omega (arith, length-append (print_line line) (flat_map print_line lines))
-
--- a module has room for fewer lines than there is fuel
-pub lines_fit : (text : List ℕ) (lines : List (List Parameter)) → IsModule text lines → ArePrintLines lines
-lines_fit text lines is = record {
-  short = is.short;
-  few = omega (arith, line_bytes lines, is.within, ap length is.spelled, length-append (head ++ flat_map print_line lines) foot, length-append head (flat_map print_line lines));
-}
 
 given_slot : (lines : List (List Parameter)) (p : Parameter) → IsGiven (parts_of lines) (function_of lines) (slot_of p)
 given_slot lines Time = refl

@@ -1,6 +1,7 @@
 pub mod InputFaults
 pub mod Inputs
-pub mod ModuleText
+pub mod ModuleTexts
+pub mod Printing
 pub mod Program
 pub mod Report
 pub mod Run

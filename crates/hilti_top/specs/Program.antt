@@ -12,8 +12,8 @@ use Rattle.hilti_program.specs.declared.parts.Variable.TheVariants as variables
 use Rattle.hilti_program.specs.declared.parts.Operand.{Operand}
 use Rattle.hilti_program.specs.declared.parts.Operand.TheVariants as operands
 use Rattle.hilti_pcap.specs.declared.packet.Packet.{Packet}
-use Rattle.hilti_top.specs.declared.module_text.Parameter.{Parameter}
-use Rattle.hilti_top.specs.declared.module_text.Parameter.TheVariants.{Time, Bytes}
+use Rattle.hilti_top.specs.declared.printing.Parameter.{Parameter}
+use Rattle.hilti_top.specs.declared.printing.Parameter.TheVariants.{Time, Bytes}
 
 -- the slot of a parameter
 abbrev pub slot_of : Parameter → Operand

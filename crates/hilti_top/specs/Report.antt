@@ -4,8 +4,8 @@ use Rattle.std.specs.Fmt.{decimal}
 use Rattle.std.specs.List.{flat_map, join_by}
 use Rattle.hilti_pcap.specs.declared.packet.Packet.{Packet}
 use Rattle.hilti_print.specs.Texts.{moment_text, escaped_text}
-use Rattle.hilti_top.specs.declared.module_text.Parameter.{Parameter}
-use Rattle.hilti_top.specs.declared.module_text.Parameter.TheVariants.{Time, Bytes}
+use Rattle.hilti_top.specs.declared.printing.Parameter.{Parameter}
+use Rattle.hilti_top.specs.declared.printing.Parameter.TheVariants.{Time, Bytes}
 
 -- the value of a parameter, as `print` shows it
 abbrev pub value_text : Packet → Parameter → List ℕ

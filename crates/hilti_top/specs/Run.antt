@@ -5,8 +5,8 @@ use Rattle.hilti_core.specs.declared.pieces.Item.{Item}
 use Rattle.hilti_core.specs.declared.pieces.Item.TheVariants.{Send, Line}
 use Rattle.hilti_core.specs.Body.{Runs}
 use Rattle.hilti_fiber.specs.Threads.{Facts}
-use Rattle.hilti_top.specs.declared.module_text.Parameter.{Parameter}
-use Rattle.hilti_top.specs.ModuleText.{ArePrintLines}
+use Rattle.hilti_top.specs.declared.printing.Parameter.{Parameter}
+use Rattle.hilti_top.specs.Printing.{ArePrintLines}
 use Rattle.hilti_top.specs.Program.{parts_of}
 
 -- a machine for the program of these print lines

@@ -4,7 +4,8 @@
 mod call;
 mod input;
 pub mod laws;
-mod module_text;
+mod modules;
+mod printing;
 mod program;
 mod report;
 mod run;
@@ -14,5 +15,5 @@ mod tests;
 mod words;
 
 pub use call::hilti_call;
-pub use module_text::Parameter;
+pub use printing::Parameter;
 pub use status::Status;

@@ -1,9 +1,9 @@
 //! The program of a module of print lines.
 ghost use Rattle.std.specs.Prelude.{◌≡◌, ◌++◌, ◌∷◌, [], IfOk, map};
-ghost use Rattle.hilti_top.specs.ModuleText.{ArePrintLines};
+ghost use Rattle.hilti_top.specs.Printing.{ArePrintLines};
 ghost use Rattle.hilti_top.specs.Program.{function_of, parts_of, print_of, return_void, slot_of};
 
-use crate::module_text::{Parameter, PrintLines};
+use crate::printing::{Parameter, PrintLines};
 use hilti_base::{Blob, NoMemory};
 use hilti_program::{
     Block, Blocks, Exceptions, Function, Functions, Globals, Handlers, Hooks, Instruction,

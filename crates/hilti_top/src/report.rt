@@ -1,9 +1,9 @@
 //! The report of a run on thread 0.
 ghost use Rattle.std.specs.Prelude.{◌≡◌, ◌++◌, ◌≤◌, IfOk, OnOk, length};
-ghost use Rattle.hilti_top.specs.ModuleText.{ArePrintLines};
+ghost use Rattle.hilti_top.specs.Printing.{ArePrintLines};
 ghost use Rattle.hilti_top.specs.Report.{report, thread_lines, total};
 
-use crate::module_text::PrintLines;
+use crate::printing::PrintLines;
 use crate::run::append_calls;
 use hilti_base::{Blob, NoMemory};
 use hilti_pcap::{Packet, Packets};

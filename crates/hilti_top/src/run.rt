@@ -3,13 +3,13 @@ ghost use Rattle.std.specs.Prelude.{◌≡◌, ◌++◌, ◌≤◌, List, IfOk, 
 ghost use Rattle.std.specs.List.{flat_map};
 ghost use Rattle.hilti_core.specs.Body.{IsIdle};
 ghost use Rattle.hilti_fiber.specs.Threads.{runs};
-ghost use Rattle.hilti_top.specs.declared.module_text.Parameter.{Parameter};
-ghost use Rattle.hilti_top.specs.ModuleText.{ArePrintLines};
+ghost use Rattle.hilti_top.specs.declared.printing.Parameter.{Parameter};
+ghost use Rattle.hilti_top.specs.Printing.{ArePrintLines};
 ghost use Rattle.hilti_top.specs.Program.{packet_call};
 ghost use Rattle.hilti_top.specs.Report.{call_lines};
 ghost use Rattle.hilti_top.specs.Run.{Finishes, IsMachineOf, item_line};
 
-use crate::module_text::PrintLines;
+use crate::printing::PrintLines;
 use crate::program::program_of;
 use hilti_base::{Blob, FnId, NoMemory, ThreadId};
 use hilti_core::{Item, Items};

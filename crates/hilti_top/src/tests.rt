@@ -54,23 +54,45 @@ fn words(alloc: Global, words: &[&[u8]]) -> Result<Names, NoMemory> {
     Ok(all)
 }
 
-/// Runs `one` over a capture and a module, and gives the status and what was written.
+/// Runs `one` over a capture and modules, and gives the status and what was written.
+fn run_all(
+    alloc: Global,
+    capture: &[u8],
+    modules: &[&[u8]],
+    outside: Outside<'_>,
+) -> Result<(Status, Blob), NoMemory> {
+    let failing_reads = numbers(alloc, outside.failing_reads)?;
+    let mut files = MemFiles::new(alloc, outside.read.max(1), failing_reads);
+    files.put_file(b"c", capture)?;
+    let mut words = words(alloc, &[b"one", b"c"])?;
+    for (module, name) in modules.iter().zip(b"mno") {
+        let name = Blob::of(alloc, &[*name])?;
+        files.put_file(name.bytes(), module)?;
+        words.push(name)?;
+    }
+    let failing_writes = numbers(alloc, outside.failing_writes)?;
+    let mut sink = MemSink::new(alloc, outside.write.max(1), failing_writes);
+    sink.reserve(4096)?;
+    let status = hilti_call(alloc, words.as_slice(), &mut files, &mut sink);
+    Ok((status, Blob::of(alloc, sink.written())?))
+}
+
+/// Runs `one` over a capture and one module.
 fn run(
     alloc: Global,
     capture: &[u8],
     module: &[u8],
     outside: Outside<'_>,
 ) -> Result<(Status, Blob), NoMemory> {
-    let failing_reads = numbers(alloc, outside.failing_reads)?;
-    let mut files = MemFiles::new(alloc, outside.read.max(1), failing_reads);
-    files.put_file(b"c", capture)?;
-    files.put_file(b"m", module)?;
-    let failing_writes = numbers(alloc, outside.failing_writes)?;
-    let mut sink = MemSink::new(alloc, outside.write.max(1), failing_writes);
-    sink.reserve(4096)?;
-    let words = words(alloc, &[b"one", b"c", b"m"])?;
-    let status = hilti_call(alloc, words.as_slice(), &mut files, &mut sink);
-    Ok((status, Blob::of(alloc, sink.written())?))
+    run_all(alloc, capture, &[module], outside)
+}
+
+/// The refusal of a module.
+fn refusal(file: u32, line: u32, column: u32, code: u32) -> Status {
+    Status::BadModule {
+        place: Place { file, line, column },
+        code,
+    }
 }
 
 #[test]
@@ -109,21 +131,79 @@ fn prints_values(rt: HostRuntime) -> Result<(), Fail> {
 }
 
 #[test]
-fn refuses_modules_and_captures(rt: HostRuntime) -> Result<(), Fail> {
+fn takes_other_texts(rt: HostRuntime) -> Result<(), Fail> {
+    let alloc = rt.alloc();
+    let capture = joined(alloc, &HEADER, &RECORD)?;
+    let texts: [&[u8]; 2] = [
+        b"# times\r\nmodule Main\r\nvoid packet(time t, bytes d) {\r\n  print  t d\r\n  return.void\r\n}\r\n",
+        b"module Main\nvoid packet(time when, ref<bytes> what) { # all\nprint when what\nreturn . void\n}",
+    ];
+    for text in texts {
+        let (status, written) = run(alloc, &capture, text, SURE)?;
+        assert_eq!(rt; status, Status::Done);
+        assert_eq!(rt; written.bytes(), REPORT);
+    }
+    Ok(())
+}
+
+#[test]
+fn refuses_modules(rt: HostRuntime) -> Result<(), Fail> {
     let alloc = rt.alloc();
     let four = b"module Main\nvoid packet(time t, bytes d) {\n  print t t t t\n  return.void\n}\n";
-    let line_ends =
-        b"module Main\r\nvoid packet(time t, bytes d) {\r\n  print t d\r\n  return.void\r\n}\r\n";
-    let place = Place {
-        file: 0,
-        line: 1,
-        column: 1,
-    };
-    for module in [&[], &MODULE[..20], four.as_slice(), line_ends.as_slice()] {
+    let local =
+        b"module Main\nvoid packet(time t, bytes d) {\n  local time u\n  print t\n  return.void\n}\n";
+    let alone = [
+        (b"".as_slice(), refusal(0, 1, 1, 10)),
+        (b"module Main\nvoid pac".as_slice(), refusal(0, 2, 9, 10)),
+        (four.as_slice(), refusal(0, 1, 1, 60)),
+        (local.as_slice(), refusal(0, 1, 1, 60)),
+    ];
+    for (module, expected) in alone {
         let (status, written) = run(alloc, &HEADER, module, SURE)?;
-        assert_eq!(rt; status, Status::BadModule { place, code: 60 });
+        assert_eq!(rt; status, expected);
         assert_eq!(rt; written.len(), 0);
     }
+    Ok(())
+}
+
+#[test]
+fn refuses_the_first_of_two_faults(rt: HostRuntime) -> Result<(), Fail> {
+    let alloc = rt.alloc();
+    let pairs = [
+        (MODULE, b"module Other\n".as_slice(), refusal(0, 1, 1, 60)),
+        (
+            MODULE,
+            b"module Other\n\x01".as_slice(),
+            refusal(1, 2, 1, 1),
+        ),
+        (
+            b"module".as_slice(),
+            b"\x01".as_slice(),
+            refusal(0, 1, 7, 10),
+        ),
+    ];
+    for (first, second, expected) in pairs {
+        let (status, written) = run_all(alloc, &HEADER, &[first, second], SURE)?;
+        assert_eq!(rt; status, expected);
+        assert_eq!(rt; written.len(), 0);
+    }
+    Ok(())
+}
+
+#[test]
+fn refuses_long_modules(rt: HostRuntime) -> Result<(), Fail> {
+    let alloc = rt.alloc();
+    let long = Vec::from_elem(alloc, b' ', 1_048_577)?;
+    // The first module's text is refused too, but only after all files are read.
+    let (status, written) = run_all(alloc, &HEADER, &[b"", long.as_slice()], SURE)?;
+    assert_eq!(rt; status, refusal(1, 1, 1, 50));
+    assert_eq!(rt; written.len(), 0);
+    Ok(())
+}
+
+#[test]
+fn refuses_captures(rt: HostRuntime) -> Result<(), Fail> {
+    let alloc = rt.alloc();
     for capture in [&[], &HEADER[..23], &RECORD[..]] {
         let (status, written) = run(alloc, capture, MODULE, SURE)?;
         assert_eq!(rt; status, Status::BadCapture { at: 0, code: 60 });
@@ -153,19 +233,31 @@ fn hears_faults(rt: HostRuntime) -> Result<(), Fail> {
     let (status, written) = run(alloc, &capture, MODULE, outside)?;
     assert_eq!(rt; status, Status::ReadFault);
     assert_eq!(rt; written.len(), 0);
+    // Opening the second module, behind opening the first, its bytes and its end.
+    let outside = Outside {
+        failing_reads: &[4],
+        ..SURE
+    };
+    let (status, written) = run_all(alloc, &capture, &[MODULE, MODULE], outside)?;
+    assert_eq!(rt; status, Status::ReadFault);
+    assert_eq!(rt; written.len(), 0);
     Ok(())
 }
 
 #[test]
 fn reads_words(rt: HostRuntime) -> Result<(), Fail> {
     let alloc = rt.alloc();
+    let many: [&[u8]; 19] = [
+        b"one", b"c", b"m", b"m", b"m", b"m", b"m", b"m", b"m", b"m", b"m", b"m", b"m", b"m", b"m",
+        b"m", b"m", b"m", b"m",
+    ];
     let refused: [&[&[u8]]; 8] = [
         &[],
         &[b"one", b"c"],
-        &[b"one", b"c", b"m", b"m"],
+        &many,
         &[b"run", b"c", b"m"],
         &[b"one", b"", b"m"],
-        &[b"one", b"c", b"-m"],
+        &[b"one", b"c", b"m", b"-m"],
         &[b"one", b"c", b"\xff"],
         &[b"--help"],
     ];
@@ -176,6 +268,12 @@ fn reads_words(rt: HostRuntime) -> Result<(), Fail> {
         let status = hilti_call(alloc, words.as_slice(), &mut files, &mut sink);
         assert_eq!(rt; status, Status::Usage, "at {at}");
     }
+    // 16 modules are a command: none of the files is there.
+    let words = words(alloc, &many[..18])?;
+    let mut files = MemFiles::new(alloc, 1, Numbers::new(alloc));
+    let mut sink = MemSink::new(alloc, 1, Numbers::new(alloc));
+    let status = hilti_call(alloc, words.as_slice(), &mut files, &mut sink);
+    assert_eq!(rt; status, Status::ReadFault);
     Ok(())
 }
 

@@ -1,21 +1,21 @@
 use Rattle.std.proofs.Common.{◌∙◌, subst, refl}
 use Rattle.hilti_outside.specs.Contents.{Grows, GrowsByFront}
-use Rattle.hilti_top.proofs.Named.{module_from, capture_from, no_capture_from}
+use Rattle.hilti_top.proofs.Named.{accepted_from, capture_from, no_capture_from}
 use Rattle.hilti_top.proofs.call.hilti_call.Goals as goal
 
-pub returns-in-Err-NotYet-read_capture-clause-bad_capture :
-    goal.returns-in-Err-NotYet-read_capture-clause-bad_capture
-returns-in-Err-NotYet-read_capture-clause-bad_capture g c = λ at code is.
-    no_capture_from (g.F.Files.files c.args.files.now) (g.F.Files.files c.read_module.new.files) c.args.words.now
-    c.in-Some.one.capture.now c.in-Some.one.module.now c.in-Some.ensures.command c.in-Ok.ensures.files
-    (rw c.in-Err-NotYet-read_capture.field-0-is at c.in-Err-NotYet-read_capture.ensures.not_yet refl)
+pub returns-in-Err-NotYet-clause-bad_capture :
+    goal.returns-in-Err-NotYet-clause-bad_capture
+returns-in-Err-NotYet-clause-bad_capture g c = λ at code is.
+    no_capture_from (g.F.Files.files c.args.files.now) (g.F.Files.files c.read_modules.new.files) c.args.words.now
+    c.in-Some.one.capture.now c.in-Some.one.modules.now c.in-Some.ensures.command c.in-Ok.ensures.files
+    (rw c.in-Err-NotYet.field-0-is at c.in-Err-NotYet.ensures.not_yet refl)
 
 pub returns-in-Ok-write_all-clause-done : goal.returns-in-Ok-write_all-clause-done
 returns-in-Ok-write_all-clause-done g c = λ is.
-    let lines = module_from (g.F.Files.files c.args.files.now) c.args.words.now c.in-Some.one.capture.now c.in-Some.one.module.now
+    let lines = accepted_from (g.F.Files.files c.args.files.now) c.args.words.now c.in-Some.one.capture.now c.in-Some.one.modules.now
     c.in-Ok.lines c.in-Some.ensures.command c.in-Ok.ensures.lines in
-    let packets = capture_from (g.F.Files.files c.args.files.now) (g.F.Files.files c.read_module.new.files) c.args.words.now
-    c.in-Some.one.capture.now c.in-Some.one.module.now c.in-Ok-read_capture.packets c.in-Some.ensures.command
+    let packets = capture_from (g.F.Files.files c.args.files.now) (g.F.Files.files c.read_modules.new.files) c.args.words.now
+    c.in-Some.one.capture.now c.in-Some.one.modules.now c.in-Ok-read_capture.packets c.in-Some.ensures.command
     c.in-Ok.ensures.files c.in-Ok-read_capture.ensures.packets in
     let grows = c.in-Ok-write_all.ensures.ok in (
       c.in-Ok.lines,
@@ -28,10 +28,10 @@ returns-in-Ok-write_all-clause-done g c = λ is.
 
 pub returns-clause-write_fault : goal.returns-clause-write_fault
 returns-clause-write_fault g c = λ is.
-    let lines = module_from (g.F.Files.files c.args.files.now) c.args.words.now c.in-Some.one.capture.now c.in-Some.one.module.now
+    let lines = accepted_from (g.F.Files.files c.args.files.now) c.args.words.now c.in-Some.one.capture.now c.in-Some.one.modules.now
     c.in-Ok.lines c.in-Some.ensures.command c.in-Ok.ensures.lines in
-    let packets = capture_from (g.F.Files.files c.args.files.now) (g.F.Files.files c.read_module.new.files) c.args.words.now
-    c.in-Some.one.capture.now c.in-Some.one.module.now c.in-Ok-read_capture.packets c.in-Some.ensures.command
+    let packets = capture_from (g.F.Files.files c.args.files.now) (g.F.Files.files c.read_modules.new.files) c.args.words.now
+    c.in-Some.one.capture.now c.in-Some.one.modules.now c.in-Ok-read_capture.packets c.in-Some.ensures.command
     c.in-Ok.ensures.files c.in-Ok-read_capture.ensures.packets in
     let grows = c.in-Err.ensures.err in (
       c.in-Ok.lines,

@@ -1,14 +1,15 @@
 use Rattle.std.proofs.Common.{◌≡◌, rules, codes}
-use Rattle.hilti_top.proofs.ThreeWords.{three_items}
+use Rattle.hilti_top.proofs.Shapes.{behind_two}
 use Rattle.hilti_top.proofs.words.read_words.Goals as goal
 
-pub returns-then-is_name-2-clause-command : goal.returns-then-is_name-2-clause-command
-returns-then-is_name-2-clause-command c =
-    let words = three_items c.args.words.now c.command-item.result c.capture-item.result c.module-item.result
-    c.in-len3.len_at_least c.in-len3.len_below c.command-item.is c.capture-item.is c.module-item.is in
+pub returns-then-are_names-clause-command : goal.returns-then-are_names-clause-command
+returns-then-are_names-clause-command c =
+    let words = behind_two c.args.words.now c.command-item.result c.capture-item.result c.in-len2-up.len_at_least c.command-item.is c.capture-item.is in
     let one : c.command-item.result ≡ codes "one" = search rules in
     record {
-      words_are = cc (words, one, c.bytes-capture.ensures, c.bytes-module.ensures);
+      words_are = cc (words, one, c.bytes-capture.ensures);
       capture_named = search rules;
-      module_named = search rules;
+      modules_named = search rules;
+      some = grind rules;
+      few = c.if-modules-le-MODULES.true;
     }

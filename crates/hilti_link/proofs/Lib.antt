@@ -1,0 +1,14 @@
+pub mod Agreeing
+pub mod Announced
+pub mod AnsweringHooks
+pub mod Mains
+pub mod SameWritten
+pub mod Turns
+pub mod Room
+pub mod ModuleItems
+pub mod AllModules
+pub mod Answering
+pub mod Taking
+pub mod Joined
+pub mod AnsweringItems
+pub mod Slots

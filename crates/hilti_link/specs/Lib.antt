@@ -1,0 +1,12 @@
+pub mod InTurn
+pub mod Seeing
+pub mod Views
+pub mod TypedWords
+pub mod Shapes
+pub mod Hooks
+pub mod Items
+pub mod Entries
+pub mod Linking
+pub mod Announcing
+pub mod Standings
+pub mod Refusals

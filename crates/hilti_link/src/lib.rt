@@ -1,0 +1,18 @@
+//! Joins modules: every name and type in their declarations gets its meaning, or the first refusal answers.
+#![tactic(auto)]
+
+mod entries;
+mod hooks;
+mod items;
+mod linking;
+mod shapes;
+mod standing;
+mod tables;
+mod typed_words;
+
+pub use hilti_scope::Modules;
+pub use linking::{Linked, link};
+pub use tables::{
+    LinkedException, LinkedExceptions, LinkedFunction, LinkedFunctions, LinkedGlobal,
+    LinkedGlobals, LinkedHook, LinkedHooks, Site, Tables,
+};

@@ -1,0 +1,14 @@
+use Rattle.std.proofs.Common.{◌≡◌, Err, ap, subst}
+use Rattle.std.proofs.lemmas.Result.{err_from_is_err_and}
+use Rattle.hilti_top.specs.declared.modules.ModulesFault.TheVariants.{At}
+use Rattle.hilti_top.specs.InputFaults.{of_refusal}
+use Rattle.hilti_top.specs.ModuleTexts.{IsRefused}
+use Rattle.hilti_top.proofs.Named.{refused_as}
+use Rattle.hilti_top.proofs.modules.read_modules.Goals as goal
+
+pub returns-in_err-printed_by_texts-clause-refused : goal.returns-in_err-printed_by_texts-clause-refused
+returns-in_err-printed_by_texts-clause-refused g c = λ place code is all told.
+    let failed = err_from_is_err_and c.from_residual-in_err-printed_by_texts.result c.from_residual-in_err-printed_by_texts.ensures.1 in
+    let refused : of_refusal c.in_err-printed_by_texts.field-0.0 ≡ At place code = cc (failed.1, failed.2, is) in
+    let is_refused = c.in_err-printed_by_texts.ensures.refused place code (ap Err (refused_as c.in_err-printed_by_texts.field-0.0 place code refused)) in
+    subst (λ texts. IsRefused texts place code) (c.in_ok-texts.ensures.texts all told) is_refused
