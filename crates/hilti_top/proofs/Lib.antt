@@ -8,3 +8,4 @@ mod Settled
 mod Shapes
 mod Typed
 mod Zips
+pub mod NotYet
