@@ -138,8 +138,8 @@ impl Vthread {
     /// It takes no memory.
     pub fn place(&self) -> Option<(FnId, u32, u32)>
         ensures none { IsNone result ↔ (self.now.calling ≡ None) }
-        ensures next { (facts : Facts) (number : ℕ) (finished : List Called) (running : Option Running)
-            → runs facts self.now number finished running
+        ensures next { (facts : Facts) (number : ℕ) (finished : List Called)
+            (running : Option Running) → runs facts self.now number finished running
             → IsPlace facts number finished running result }
     {
         match &self.calling {

@@ -117,7 +117,8 @@ impl<K: Ord, V> Keyed<K, V> {
     /// Gives a key another stamp; false exactly where the key is absent. It is no change of the version.
     pub fn set_stamp(&mut self, key: &K, stamp: u64) -> bool
         ensures found { result ≡ is_some (lookup (is_at (K.cmp key.now)) self.old.entries) }
-        ensures stamped { IfSome (lookup (is_at (K.cmp key.now)) self.old.entries) (λ held. self.new.entries
+        ensures stamped { IfSome (lookup (is_at (K.cmp key.now)) self.old.entries)
+            (λ held. self.new.entries
             ≡ set_value (is_at (K.cmp key.now)) self.old.entries (held.0, stamp)) }
         ensures absent { lookup (is_at (K.cmp key.now)) self.old.entries ≡ None
             → self.new.entries ≡ self.old.entries }
