@@ -7,15 +7,15 @@ use Rattle.hilti_grammar.specs.Grammar.{Symbol, Symbol.One, Symbol.◌▹◌, Sy
 use Rattle.hilti_grammar.specs.Reads.{list_tree}
 use Rattle.hilti_syntax.specs.declared.kind.Kind.{Kind}
 use Rattle.hilti_syntax.specs.declared.kind.Kind.TheVariants as kinds
-use Rattle.hilti_syntax.specs.declared.types.Word.{Word}
-use Rattle.hilti_syntax.specs.declared.types.Name.{Name}
-use Rattle.hilti_syntax.specs.declared.module.Body.{Body}
-use Rattle.hilti_syntax.specs.declared.module.Handler.{Handler}
-use Rattle.hilti_syntax.specs.declared.module.Line.{Line}
-use Rattle.hilti_syntax.specs.declared.module.Line.TheVariants as lines
-use Rattle.hilti_syntax.specs.declared.module.Mnemonic.{Mnemonic}
-use Rattle.hilti_syntax.specs.declared.module.Operand.{Operand}
-use Rattle.hilti_syntax.specs.declared.module.Parameter.{Parameter}
+use Rattle.hilti_module.specs.declared.types.Word.{Word}
+use Rattle.hilti_module.specs.declared.types.Name.{Name}
+use Rattle.hilti_module.specs.declared.module.Body.{Body}
+use Rattle.hilti_module.specs.declared.module.Handler.{Handler}
+use Rattle.hilti_module.specs.declared.module.Line.{Line}
+use Rattle.hilti_module.specs.declared.module.Line.TheVariants as lines
+use Rattle.hilti_module.specs.declared.module.Mnemonic.{Mnemonic}
+use Rattle.hilti_module.specs.declared.module.Operand.{Operand}
+use Rattle.hilti_module.specs.declared.module.Parameter.{Parameter}
 use Rattle.hilti_syntax.specs.Items.{operands_tree, behind_first_word, instruction_tree, is_reserved, behind_target, handler_tree, line_tree, parameter_tree, local_tree, body_tree}
 use Rattle.hilti_syntax.specs.Modules.{RuleName, RuleName.Operands as the_operands, RuleName.AfterWord as after_word, RuleName.InstructionText as an_instruction, RuleName.LineText as a_line, RuleName.BodyText as a_body, grammar, mark, maybe, line_end, any_words}
 use Rattle.hilti_syntax.specs.Spelled.{ModuleTree, marked_at, word_tree, behind_word, maybe_tree, name_tree}

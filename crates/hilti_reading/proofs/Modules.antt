@@ -5,10 +5,10 @@ use Rattle.std.specs.Prelude.{map}
 use Rattle.hilti_lexer.proofs.Unique.{one_reading}
 use Rattle.hilti_grammar.specs.Grammar.{Symbol.Rule}
 use Rattle.hilti_grammar.specs.Reads.{list_tree}
-use Rattle.hilti_syntax.specs.declared.types.Word.{Word}
-use Rattle.hilti_syntax.specs.declared.module.Item.{Item}
-use Rattle.hilti_syntax.specs.declared.module.Module.{Module}
-use Rattle.hilti_syntax.specs.Counts.{module_count}
+use Rattle.hilti_module.specs.declared.types.Word.{Word}
+use Rattle.hilti_module.specs.declared.module.Item.{Item}
+use Rattle.hilti_module.specs.declared.module.Module.{Module}
+use Rattle.hilti_module.specs.Counts.{module_count}
 use Rattle.hilti_syntax.specs.Ends.{end_of}
 use Rattle.hilti_syntax.specs.Items.{item_tree, module_tree}
 use Rattle.hilti_syntax.specs.Modules.{RuleName.ItemText as an_item, RuleName.ModuleText as a_module, grammar}

@@ -6,10 +6,10 @@ use Rattle.hilti_lexer.specs.declared.token.TokenKind.TheVariants as tokens
 use Rattle.hilti_grammar.specs.Grammar.{Symbol.Rule, Tree.Nothing, Tree.Pair, Tree.Left, Tree.Right}
 use Rattle.hilti_grammar.specs.Reads.{separated_tree}
 use Rattle.hilti_syntax.specs.declared.kind.Kind.{Kind}
-use Rattle.hilti_syntax.specs.declared.module.Operand.{Operand}
-use Rattle.hilti_syntax.specs.declared.module.Operand.TheVariants as operands
-use Rattle.hilti_syntax.specs.declared.module.Seconds.{Seconds}
-use Rattle.hilti_syntax.specs.declared.module.Simple.{Simple}
+use Rattle.hilti_module.specs.declared.module.Operand.{Operand}
+use Rattle.hilti_module.specs.declared.module.Operand.TheVariants as operands
+use Rattle.hilti_module.specs.declared.module.Seconds.{Seconds}
+use Rattle.hilti_module.specs.declared.module.Simple.{Simple}
 use Rattle.hilti_syntax.specs.Items.{TimePart, seconds_tree, time_part, other_tree, simple_of, simple_tree, group_tree, operand_of, operands_tree}
 use Rattle.hilti_syntax.specs.Modules.{RuleName.Operands as the_operands, RuleName.OperandsBehindTime as behind_time, grammar}
 use Rattle.hilti_syntax.specs.Operands.{is_alone}

@@ -5,17 +5,17 @@ use Rattle.hilti_base.specs.declared.names.Place.{Place}
 use Rattle.hilti_grammar.specs.Grammar.{Tree.Pair, Tree.Left, Tree.Right}
 use Rattle.hilti_grammar.specs.Reads.{separated_tree}
 use Rattle.hilti_syntax.specs.declared.kind.Kind.TheVariants as kinds
-use Rattle.hilti_syntax.specs.declared.types.TypeText.{TypeText}
-use Rattle.hilti_syntax.specs.declared.types.Word.{Word}
-use Rattle.hilti_syntax.specs.declared.types.Name.{Name}
-use Rattle.hilti_syntax.specs.declared.types.Number.{Number}
-use Rattle.hilti_syntax.specs.declared.module.Parameter.{Parameter}
-use Rattle.hilti_syntax.specs.declared.module.Shape.{Shape}
-use Rattle.hilti_syntax.specs.declared.module.Shape.TheVariants as shapes
-use Rattle.hilti_syntax.specs.declared.module.Field.{Field}
-use Rattle.hilti_syntax.specs.declared.module.Form.{Form}
-use Rattle.hilti_syntax.specs.declared.module.Form.TheVariants as forms
-use Rattle.hilti_syntax.specs.declared.module.Bits.{Bits}
+use Rattle.hilti_module.specs.declared.types.TypeText.{TypeText}
+use Rattle.hilti_module.specs.declared.types.Word.{Word}
+use Rattle.hilti_module.specs.declared.types.Name.{Name}
+use Rattle.hilti_module.specs.declared.types.Number.{Number}
+use Rattle.hilti_module.specs.declared.module.Parameter.{Parameter}
+use Rattle.hilti_module.specs.declared.module.Shape.{Shape}
+use Rattle.hilti_module.specs.declared.module.Shape.TheVariants as shapes
+use Rattle.hilti_module.specs.declared.module.Field.{Field}
+use Rattle.hilti_module.specs.declared.module.Form.{Form}
+use Rattle.hilti_module.specs.declared.module.Form.TheVariants as forms
+use Rattle.hilti_module.specs.declared.module.Bits.{Bits}
 use Rattle.hilti_syntax.specs.Items.{parameter_tree, parameters_tree, inside_tree, arguments_tree, bits_tree, form_tree, field_tree, fields_tree, words_tree, shape_tree}
 use Rattle.hilti_syntax.specs.Spelled.{ModuleTree, keyword_at, word_tree, number_tree, spelled_at, behind_mark, between_marks, maybe_tree, name_tree}
 use Rattle.hilti_syntax.specs.Trees.{type_tree}

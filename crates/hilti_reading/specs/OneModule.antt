@@ -1,10 +1,10 @@
 -- What holds of every text that is a module: it is one module, but for the two ways to hold an operand `bytes`.
 use Rattle.std.specs.Prelude.{◌≡◌, ℕ, List}
 use Rattle.hilti_base.specs.declared.names.Place.{Place}
-use Rattle.hilti_syntax.specs.declared.types.PlainType.TheVariants as plain
-use Rattle.hilti_syntax.specs.declared.types.PlainInner.TheVariants as inner
-use Rattle.hilti_syntax.specs.declared.module.Module.{Module}
-use Rattle.hilti_syntax.specs.declared.module.Simple.TheVariants as simples
+use Rattle.hilti_module.specs.declared.types.PlainType.TheVariants as plain
+use Rattle.hilti_module.specs.declared.types.PlainInner.TheVariants as inner
+use Rattle.hilti_module.specs.declared.module.Module.{Module}
+use Rattle.hilti_module.specs.declared.module.Simple.TheVariants as simples
 use Rattle.hilti_syntax.specs.Items.{simple_tree}
 use Rattle.hilti_syntax.specs.Texts.{TextIsModule}
 use Rattle.hilti_reading.specs.Settled.{settled_items}

@@ -1,7 +1,7 @@
 -- What holds of every text that is refused, by the lexer or by the grammar.
 use Rattle.std.specs.Prelude.{◌≡◌, ℕ, List}
 use Rattle.hilti_base.specs.declared.names.Place.{Place}
-use Rattle.hilti_syntax.specs.declared.module.Module.{Module}
+use Rattle.hilti_module.specs.declared.module.Module.{Module}
 use Rattle.hilti_syntax.specs.Texts.{TextIsModule, TextRefused}
 
 -- no text both is a module and is refused

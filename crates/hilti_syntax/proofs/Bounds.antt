@@ -13,9 +13,9 @@ use Rattle.hilti_lexer.proofs.Lengths.{stands_shorter}
 use Rattle.hilti_lexer.proofs.Places.{gap_within}
 use Rattle.hilti_syntax.specs.declared.kind.Kind.{Kind}
 use Rattle.hilti_syntax.specs.declared.piece.Piece.{Piece}
-use Rattle.hilti_syntax.specs.declared.module.Item.{Item}
-use Rattle.hilti_syntax.specs.declared.types.Word.{Word}
-use Rattle.hilti_syntax.specs.Counts.{module_count}
+use Rattle.hilti_module.specs.declared.module.Item.{Item}
+use Rattle.hilti_module.specs.declared.types.Word.{Word}
+use Rattle.hilti_module.specs.Counts.{module_count}
 use Rattle.hilti_syntax.specs.Kinds.{kind_of}
 use Rattle.hilti_syntax.specs.Modules.{RuleName.ModuleText}
 use Rattle.hilti_syntax.specs.Parts.{items_tree}

@@ -2,10 +2,10 @@
 use Rattle.std.proofs.Common.{◌≡◌, Bool, true, false, cond, List, ◌∙◌, ap}
 use Rattle.std.specs.Prelude.{None}
 use Rattle.hilti_grammar.specs.Grammar.{Tree.Pair, Tree.Left, Tree.Right, has}
-use Rattle.hilti_syntax.specs.declared.types.Word.{Word}
-use Rattle.hilti_syntax.specs.declared.module.Line.TheVariants as lines
-use Rattle.hilti_syntax.specs.declared.module.Mnemonic.{Mnemonic}
-use Rattle.hilti_syntax.specs.declared.module.Operand.{Operand}
+use Rattle.hilti_module.specs.declared.types.Word.{Word}
+use Rattle.hilti_module.specs.declared.module.Line.TheVariants as lines
+use Rattle.hilti_module.specs.declared.module.Mnemonic.{Mnemonic}
+use Rattle.hilti_module.specs.declared.module.Operand.{Operand}
 use Rattle.hilti_syntax.specs.Kinds.{look_up, keyword_kinds}
 use Rattle.hilti_syntax.specs.Modules.{grammar, words}
 use Rattle.hilti_syntax.specs.Spelled.{ModuleTree, word_tree}

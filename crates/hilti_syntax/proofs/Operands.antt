@@ -14,12 +14,12 @@ use Rattle.hilti_syntax.specs.declared.kind.Kind.TheVariants as kinds
 use Rattle.hilti_syntax.specs.declared.keyword.Keyword.{Keyword}
 use Rattle.hilti_syntax.specs.declared.piece.Piece.{Piece}
 use Rattle.hilti_syntax.specs.declared.stop.Stop.{Stop}
-use Rattle.hilti_syntax.specs.declared.module.Simple.{Simple}
-use Rattle.hilti_syntax.specs.declared.module.Operand.{Operand}
-use Rattle.hilti_syntax.specs.declared.module.Operand.TheVariants as operands
-use Rattle.hilti_syntax.specs.declared.module.Mnemonic.{Mnemonic}
-use Rattle.hilti_syntax.specs.declared.types.Word.{Word}
-use Rattle.hilti_syntax.specs.declared.module.Seconds.{Seconds}
+use Rattle.hilti_module.specs.declared.module.Simple.{Simple}
+use Rattle.hilti_module.specs.declared.module.Operand.{Operand}
+use Rattle.hilti_module.specs.declared.module.Operand.TheVariants as operands
+use Rattle.hilti_module.specs.declared.module.Mnemonic.{Mnemonic}
+use Rattle.hilti_module.specs.declared.types.Word.{Word}
+use Rattle.hilti_module.specs.declared.module.Seconds.{Seconds}
 use Rattle.hilti_syntax.specs.Modules.{RuleName, RuleName.Operands as the_operands, RuleName.OperandsBehindTime as behind_time, RuleName.GroupText as a_group, RuleName.SimpleText as a_simple, RuleName.OtherSimple as another, grammar, told_rules, time_words, comma, in_parens}
 use Rattle.hilti_syntax.specs.Spelled.{ModuleTree, keyword_tree, maybe_tree, between_marks, marked_at, word_tree}
 use Rattle.hilti_syntax.specs.Items.{TimePart, time_part, other_tree, simple_of, simple_tree, seconds_tree, operand_of, operands_tree, group_tree, instruction_tree, behind_first_word}

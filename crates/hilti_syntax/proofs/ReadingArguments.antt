@@ -9,7 +9,7 @@ use Rattle.hilti_grammar.specs.Runs.{Outcome, Runs.GivesUp, Runs.Follows, Runs.T
 use Rattle.hilti_lexer.specs.declared.token.Token.{Token}
 use Rattle.hilti_syntax.specs.declared.kind.Kind.{Kind}
 use Rattle.hilti_syntax.specs.declared.kind.Kind.TheVariants as kinds
-use Rattle.hilti_syntax.specs.declared.module.Parameter.{Parameter}
+use Rattle.hilti_module.specs.declared.module.Parameter.{Parameter}
 use Rattle.hilti_syntax.specs.declared.piece.Piece.{Piece}
 use Rattle.hilti_syntax.specs.declared.stop.Stop.{Stop}
 use Rattle.hilti_syntax.specs.Items.{parameters_tree, inside_tree}

@@ -8,10 +8,10 @@ use Rattle.hilti_grammar.proofs.Sets.{true_not_false}
 use Rattle.hilti_lexer.specs.declared.token.TokenKind.{TokenKind}
 use Rattle.hilti_lexer.specs.declared.token.TokenKind.TheVariants as tokens
 use Rattle.hilti_syntax.specs.declared.kind.Kind.TheVariants as kinds
-use Rattle.hilti_syntax.specs.declared.module.Bits.{Bits}
-use Rattle.hilti_syntax.specs.declared.module.Form.TheVariants as forms
-use Rattle.hilti_syntax.specs.declared.types.Number.{Number}
-use Rattle.hilti_syntax.specs.declared.types.Word.{Word}
+use Rattle.hilti_module.specs.declared.module.Bits.{Bits}
+use Rattle.hilti_module.specs.declared.module.Form.TheVariants as forms
+use Rattle.hilti_module.specs.declared.types.Number.{Number}
+use Rattle.hilti_module.specs.declared.types.Word.{Word}
 use Rattle.hilti_syntax.specs.Items.{form_tree, bits_tree}
 use Rattle.hilti_syntax.specs.Kinds.{keyword_kinds, look_up, kind_of}
 use Rattle.hilti_syntax.specs.Modules.{grammar, other_forms}

@@ -10,21 +10,21 @@ use Rattle.hilti_grammar.proofs.Loops.{gathers_begin, gathers_next, gathers_fail
 use Rattle.hilti_syntax.specs.declared.kind.Kind.TheVariants as kinds
 use Rattle.hilti_syntax.specs.declared.piece.Piece.{Piece}
 use Rattle.hilti_syntax.specs.declared.stop.Stop.{Stop}
-use Rattle.hilti_syntax.specs.declared.types.TypeText.{TypeText}
-use Rattle.hilti_syntax.specs.declared.types.TypeText.TheVariants as types
-use Rattle.hilti_syntax.specs.declared.types.Parametric.{Parametric}
-use Rattle.hilti_syntax.specs.declared.types.Parametric.TheVariants as parametrics
-use Rattle.hilti_syntax.specs.declared.types.InnerText.{InnerText}
-use Rattle.hilti_syntax.specs.declared.types.InnerText.TheVariants as inners
-use Rattle.hilti_syntax.specs.declared.types.Container.{Container}
-use Rattle.hilti_syntax.specs.declared.types.Container.TheVariants as containers
-use Rattle.hilti_syntax.specs.declared.types.Container.TheFolds.{the_lemmas}
-use Rattle.hilti_syntax.specs.declared.types.Name.{Name}
-use Rattle.hilti_syntax.specs.declared.types.Number.{Number}
-use Rattle.hilti_syntax.specs.declared.types.PlainType.{PlainType}
-use Rattle.hilti_syntax.specs.declared.types.PlainInner.{PlainInner}
-use Rattle.hilti_syntax.specs.declared.types.Single.{Single}
-use Rattle.hilti_syntax.specs.declared.types.Double.{Double}
+use Rattle.hilti_module.specs.declared.types.TypeText.{TypeText}
+use Rattle.hilti_module.specs.declared.types.TypeText.TheVariants as types
+use Rattle.hilti_module.specs.declared.types.Parametric.{Parametric}
+use Rattle.hilti_module.specs.declared.types.Parametric.TheVariants as parametrics
+use Rattle.hilti_module.specs.declared.types.InnerText.{InnerText}
+use Rattle.hilti_module.specs.declared.types.InnerText.TheVariants as inners
+use Rattle.hilti_module.specs.declared.types.Container.{Container}
+use Rattle.hilti_module.specs.declared.types.Container.TheVariants as containers
+use Rattle.hilti_module.specs.declared.types.Container.TheFolds.{the_lemmas}
+use Rattle.hilti_module.specs.declared.types.Name.{Name}
+use Rattle.hilti_module.specs.declared.types.Number.{Number}
+use Rattle.hilti_module.specs.declared.types.PlainType.{PlainType}
+use Rattle.hilti_module.specs.declared.types.PlainInner.{PlainInner}
+use Rattle.hilti_module.specs.declared.types.Single.{Single}
+use Rattle.hilti_module.specs.declared.types.Double.{Double}
 use Rattle.hilti_syntax.specs.Spelled.{keyword_at, plain_kind, inner_kind, single_kind, double_kind, between_marks, number_tree, name_tree}
 use Rattle.std.proofs.Common.{rules}
 use Rattle.hilti_syntax.specs.Modules.{RuleName.TypeText as a_type, RuleName.Parametric as a_parametric, RuleName.Container as a_container, grammar, told_rules, comma}

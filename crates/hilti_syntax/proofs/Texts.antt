@@ -5,7 +5,7 @@ use Rattle.hilti_base.specs.declared.refusal.Refusal.{Refusal}
 use Rattle.hilti_lexer.specs.declared.token.Token.{Token}
 use Rattle.hilti_grammar.specs.Grammar.{Symbol.Rule}
 use Rattle.hilti_grammar.specs.Runs.{Outcome.Done, Outcome.Failed}
-use Rattle.hilti_syntax.specs.declared.module.Module.{Module}
+use Rattle.hilti_module.specs.declared.module.Module.{Module}
 use Rattle.hilti_syntax.specs.declared.piece.Piece.{Piece}
 use Rattle.hilti_syntax.specs.declared.stop.Stop.{Stop}
 use Rattle.hilti_syntax.specs.declared.stop.Stop.TheVariants as stops

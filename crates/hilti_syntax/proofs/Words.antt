@@ -7,14 +7,14 @@ use Rattle.hilti_grammar.specs.Runs.{Outcome.Done}
 use Rattle.hilti_syntax.specs.declared.kind.Kind.{Kind}
 use Rattle.hilti_syntax.specs.declared.kind.Kind.TheVariants as kinds
 use Rattle.hilti_syntax.specs.declared.piece.Piece.{Piece}
-use Rattle.hilti_syntax.specs.declared.types.PlainType.{PlainType}
-use Rattle.hilti_syntax.specs.declared.types.PlainType.TheVariants as plain
-use Rattle.hilti_syntax.specs.declared.types.PlainInner.{PlainInner}
-use Rattle.hilti_syntax.specs.declared.types.PlainInner.TheVariants as inner
-use Rattle.hilti_syntax.specs.declared.types.Single.{Single}
-use Rattle.hilti_syntax.specs.declared.types.Single.TheVariants as single
-use Rattle.hilti_syntax.specs.declared.types.Double.{Double}
-use Rattle.hilti_syntax.specs.declared.types.Double.TheVariants as double
+use Rattle.hilti_module.specs.declared.types.PlainType.{PlainType}
+use Rattle.hilti_module.specs.declared.types.PlainType.TheVariants as plain
+use Rattle.hilti_module.specs.declared.types.PlainInner.{PlainInner}
+use Rattle.hilti_module.specs.declared.types.PlainInner.TheVariants as inner
+use Rattle.hilti_module.specs.declared.types.Single.{Single}
+use Rattle.hilti_module.specs.declared.types.Single.TheVariants as single
+use Rattle.hilti_module.specs.declared.types.Double.{Double}
+use Rattle.hilti_module.specs.declared.types.Double.TheVariants as double
 use Rattle.hilti_syntax.specs.Modules.{grammar, plain_types, plain_inner}
 use Rattle.hilti_syntax.specs.Spelled.{plain_kind, inner_kind, single_kind, double_kind, plain_of, inner_of, single_of, double_of, keyword_at}
 use Rattle.hilti_syntax.proofs.Exits.{Goes}

@@ -9,7 +9,6 @@ pub mod Spelled
 pub mod Trees
 pub mod Loops
 pub mod Items
-pub mod Counts
 pub mod Parts
 pub mod Texts
 pub mod Promises

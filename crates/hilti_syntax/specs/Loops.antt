@@ -5,7 +5,7 @@ use Rattle.hilti_syntax.specs.declared.kind.Kind.{Kind}
 use Rattle.hilti_syntax.specs.Spelled.{ModuleTree}
 use Rattle.hilti_grammar.specs.Reads.{Gathers}
 use Rattle.hilti_syntax.specs.declared.piece.Piece.{Piece}
-use Rattle.hilti_syntax.specs.declared.types.TypeText.{TypeText}
+use Rattle.hilti_module.specs.declared.types.TypeText.{TypeText}
 use Rattle.hilti_syntax.specs.Modules.{RuleName, RuleName.TypeText as a_type, grammar, told_rules, comma}
 use Rattle.hilti_syntax.specs.Readers.{stops_of}
 use Rattle.hilti_syntax.specs.Trees.{type_tree}

@@ -8,12 +8,12 @@ use Rattle.hilti_syntax.specs.declared.kind.Kind.{Kind}
 use Rattle.hilti_syntax.specs.declared.kind.Kind.TheVariants as kinds
 use Rattle.hilti_syntax.specs.declared.piece.Piece.{Piece}
 use Rattle.hilti_syntax.specs.declared.stop.Stop.{Stop}
-use Rattle.hilti_syntax.specs.declared.module.Operand.{Operand}
-use Rattle.hilti_syntax.specs.declared.module.Operand.TheVariants as operands
-use Rattle.hilti_syntax.specs.declared.module.Simple.{Simple}
-use Rattle.hilti_syntax.specs.declared.module.Simple.TheVariants as simples
-use Rattle.hilti_syntax.specs.declared.module.Literal.{Literal}
-use Rattle.hilti_syntax.specs.declared.module.Literal.TheVariants as literals
+use Rattle.hilti_module.specs.declared.module.Operand.{Operand}
+use Rattle.hilti_module.specs.declared.module.Operand.TheVariants as operands
+use Rattle.hilti_module.specs.declared.module.Simple.{Simple}
+use Rattle.hilti_module.specs.declared.module.Simple.TheVariants as simples
+use Rattle.hilti_module.specs.declared.module.Literal.{Literal}
+use Rattle.hilti_module.specs.declared.module.Literal.TheVariants as literals
 use Rattle.hilti_syntax.specs.Modules.{RuleName.Operands as the_operands, grammar, told_rules, plain_operands, words}
 use Rattle.hilti_syntax.specs.Readers.{stops_of}
 use Rattle.hilti_syntax.specs.Spelled.{ModuleTree, keyword_at, marked_at, plain_kind, inner_kind}

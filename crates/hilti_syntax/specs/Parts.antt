@@ -6,15 +6,15 @@ use Rattle.hilti_base.specs.declared.names.Place.{Place}
 use Rattle.hilti_syntax.specs.declared.kind.Kind.{Kind}
 use Rattle.hilti_syntax.specs.declared.kind.Kind.TheVariants as kinds
 use Rattle.hilti_syntax.specs.declared.piece.Piece.{Piece}
-use Rattle.hilti_syntax.specs.declared.types.Word.{Word}
-use Rattle.hilti_syntax.specs.declared.module.Handler.{Handler}
-use Rattle.hilti_syntax.specs.declared.module.Parameter.{Parameter}
-use Rattle.hilti_syntax.specs.declared.module.Item.{Item}
-use Rattle.hilti_syntax.specs.declared.module.Item.TheVariants as items
-use Rattle.hilti_syntax.specs.declared.module.Literal.{Literal}
-use Rattle.hilti_syntax.specs.declared.types.Number.{Number}
-use Rattle.hilti_syntax.specs.declared.module.Line.{Line}
-use Rattle.hilti_syntax.specs.declared.module.Line.TheVariants as lines
+use Rattle.hilti_module.specs.declared.types.Word.{Word}
+use Rattle.hilti_module.specs.declared.module.Handler.{Handler}
+use Rattle.hilti_module.specs.declared.module.Parameter.{Parameter}
+use Rattle.hilti_module.specs.declared.module.Item.{Item}
+use Rattle.hilti_module.specs.declared.module.Item.TheVariants as items
+use Rattle.hilti_module.specs.declared.module.Literal.{Literal}
+use Rattle.hilti_module.specs.declared.types.Number.{Number}
+use Rattle.hilti_module.specs.declared.module.Line.{Line}
+use Rattle.hilti_module.specs.declared.module.Line.TheVariants as lines
 use Rattle.hilti_syntax.specs.Modules.{RuleName, RuleName.NameText, RuleName.LiteralText, RuleName.TypeText, grammar, told_rules, mark, kept_one, word, line_end, typed_word, maybe, number}
 use Rattle.hilti_syntax.specs.Readers.{stops_of}
 use Rattle.hilti_syntax.specs.Spelled.{ModuleTree, marked_at, word_tree, number_tree, behind_mark, maybe_tree}

@@ -10,17 +10,17 @@ use Rattle.hilti_syntax.specs.declared.kind.Kind.TheVariants as kinds
 use Rattle.hilti_syntax.specs.declared.keyword.Keyword.{Keyword}
 use Rattle.hilti_syntax.specs.declared.piece.Piece.{Piece}
 use Rattle.hilti_syntax.specs.Kinds.{spelled}
-use Rattle.hilti_syntax.specs.declared.types.Word.{Word}
-use Rattle.hilti_syntax.specs.declared.types.Name.{Name}
-use Rattle.hilti_syntax.specs.declared.types.Number.{Number}
-use Rattle.hilti_syntax.specs.declared.types.PlainType.{PlainType}
-use Rattle.hilti_syntax.specs.declared.types.PlainType.TheVariants as plain
-use Rattle.hilti_syntax.specs.declared.types.PlainInner.{PlainInner}
-use Rattle.hilti_syntax.specs.declared.types.PlainInner.TheVariants as inner
-use Rattle.hilti_syntax.specs.declared.types.Single.{Single}
-use Rattle.hilti_syntax.specs.declared.types.Single.TheVariants as single
-use Rattle.hilti_syntax.specs.declared.types.Double.{Double}
-use Rattle.hilti_syntax.specs.declared.types.Double.TheVariants as double
+use Rattle.hilti_module.specs.declared.types.Word.{Word}
+use Rattle.hilti_module.specs.declared.types.Name.{Name}
+use Rattle.hilti_module.specs.declared.types.Number.{Number}
+use Rattle.hilti_module.specs.declared.types.PlainType.{PlainType}
+use Rattle.hilti_module.specs.declared.types.PlainType.TheVariants as plain
+use Rattle.hilti_module.specs.declared.types.PlainInner.{PlainInner}
+use Rattle.hilti_module.specs.declared.types.PlainInner.TheVariants as inner
+use Rattle.hilti_module.specs.declared.types.Single.{Single}
+use Rattle.hilti_module.specs.declared.types.Single.TheVariants as single
+use Rattle.hilti_module.specs.declared.types.Double.{Double}
+use Rattle.hilti_module.specs.declared.types.Double.TheVariants as double
 
 -- the trees of modules
 abbrev pub ModuleTree : Type 0

@@ -3,7 +3,7 @@ use Rattle.std.specs.Prelude.{◌≡◌, ◌⊎◌, ℕ, Bool, true, false, List
 use Rattle.hilti_base.specs.declared.names.Place.{Place}
 use Rattle.hilti_lexer.specs.declared.token.Token.{Token}
 use Rattle.hilti_lexer.specs.Readings.{Lexes, Refuses}
-use Rattle.hilti_syntax.specs.declared.module.Module.{Module}
+use Rattle.hilti_module.specs.declared.module.Module.{Module}
 use Rattle.hilti_syntax.specs.declared.piece.Piece.{Piece}
 use Rattle.hilti_syntax.specs.declared.stop.Stop.{Stop}
 use Rattle.hilti_syntax.specs.declared.stop.Stop.TheVariants as stops

@@ -2,12 +2,12 @@
 use Rattle.std.specs.Prelude.{List, map}
 use Rattle.hilti_grammar.specs.Grammar.{Tree.Nothing, Tree.Pair, Tree.Left, Tree.Right}
 use Rattle.hilti_grammar.specs.Reads.{separated_tree}
-use Rattle.hilti_syntax.specs.declared.types.TypeText.{TypeText}
-use Rattle.hilti_syntax.specs.declared.types.InnerText.{InnerText}
-use Rattle.hilti_syntax.specs.declared.types.Container.{Container}
-use Rattle.hilti_syntax.specs.declared.types.Parametric.{Parametric}
-use Rattle.hilti_syntax.specs.declared.types.Container.TheOpen.{Container-F, InnerText-F, Parametric-F, TypeText-F}
-use Rattle.hilti_syntax.specs.declared.types.Container.TheFolds.{fold-Container, fold-InnerText, fold-Parametric, fold-TypeText}
+use Rattle.hilti_module.specs.declared.types.TypeText.{TypeText}
+use Rattle.hilti_module.specs.declared.types.InnerText.{InnerText}
+use Rattle.hilti_module.specs.declared.types.Container.{Container}
+use Rattle.hilti_module.specs.declared.types.Parametric.{Parametric}
+use Rattle.hilti_module.specs.declared.types.Container.TheOpen.{Container-F, InnerText-F, Parametric-F, TypeText-F}
+use Rattle.hilti_module.specs.declared.types.Container.TheFolds.{fold-Container, fold-InnerText, fold-Parametric, fold-TypeText}
 use Rattle.hilti_syntax.specs.declared.kind.Kind.TheVariants as kinds
 use Rattle.hilti_syntax.specs.Spelled.{ModuleTree, plain_kind, inner_kind, single_kind, double_kind, keyword_at, number_tree, between_marks, name_tree}
 

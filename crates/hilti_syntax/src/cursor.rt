@@ -16,7 +16,7 @@ use crate::kind::Kind;
 use crate::piece::Piece;
 use crate::piece_list::pieces;
 use crate::stop::Stop;
-use crate::types::{Number, Word};
+use hilti_module::{Number, Word};
 use hilti_base::{NoMemory, Place};
 use hilti_lexer::{Token, TokenKind, Tokens};
 use std::alloc::Global;

@@ -6,7 +6,6 @@ mod keyword;
 mod keywords;
 mod kind;
 pub mod laws;
-mod module;
 mod module_text;
 mod names;
 mod piece;
@@ -34,14 +33,5 @@ mod stop;
 mod surroundings;
 #[cfg(test)]
 mod tests;
-mod types;
 
-pub use module::{
-    Bits, Body, Field, Fields, Form, Handler, Handlers, Item, Items, Line, Lines, Literal,
-    Mnemonic, Module, Operand, Operands, Parameter, Parameters, Seconds, Shape, Simple, Simples,
-};
 pub use module_text::read_module;
-pub use types::{
-    Container, Double, InnerText, Name, Number, Parametric, PlainInner, PlainType, Single,
-    TypeText, TypeTexts, Word, Words,
-};

@@ -13,7 +13,7 @@ ghost use Rattle.hilti_syntax.specs.Texts.{AreModule, TextIsModule, TextRefused,
 
 use crate::cursor::Cursor;
 use crate::kind::Kind;
-use crate::module::Module;
+use hilti_module::Module;
 use crate::piece_list::end_place;
 use crate::read_items::read_items;
 use crate::stop::Stop;

@@ -8,7 +8,7 @@ ghost use Rattle.hilti_syntax.specs.Spelled.{name_tree, maybe_tree, behind_word}
 use crate::cursor::Cursor;
 use crate::kind::Kind;
 use crate::stop::Stop;
-use crate::types::{Name, Word};
+use hilti_module::{Name, Word};
 
 /// Reads a word, and a second one behind `::`.
 pub fn read_name(cursor: &mut Cursor) -> Result<Name, Stop>

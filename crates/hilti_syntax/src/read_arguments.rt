@@ -7,7 +7,7 @@ ghost use Rattle.hilti_syntax.specs.Items.{arguments_tree, inside_tree};
 
 use crate::cursor::Cursor;
 use crate::kind::Kind;
-use crate::module::Parameters;
+use hilti_module::Parameters;
 use crate::read_parameters::read_parameters;
 use crate::stop::Stop;
 

@@ -8,7 +8,7 @@ ghost use Rattle.hilti_syntax.specs.Parts.{local_line, locals_tree, lines_tree};
 
 use crate::cursor::Cursor;
 use crate::kind::Kind;
-use crate::module::{Body, Lines, Parameter, Parameters};
+use hilti_module::{Body, Lines, Parameter, Parameters};
 use crate::read_chosen::read_close_brace;
 use crate::read_lines::read_line;
 use crate::read_parameters::read_parameter;

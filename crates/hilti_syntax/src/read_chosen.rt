@@ -11,7 +11,7 @@ ghost use Rattle.hilti_syntax.specs.Spelled.{word_tree, marked_at};
 use crate::cursor::Cursor;
 use crate::kind::Kind;
 use crate::stop::Stop;
-use crate::types::Word;
+use hilti_module::Word;
 use hilti_base::Place;
 use hilti_lexer::{Token, TokenKind};
 

@@ -10,10 +10,10 @@ ghost use Rattle.hilti_syntax.specs.Items.{form_tree, field_tree, fields_tree, b
 
 use crate::cursor::Cursor;
 use crate::kind::Kind;
-use crate::module::{Bits, Field, Fields, Form};
+use hilti_module::{Bits, Field, Fields, Form};
 use crate::read_types::read_type;
 use crate::stop::Stop;
-use crate::types::{Number, Word};
+use hilti_module::{Number, Word};
 use hilti_lexer::{Token, TokenKind};
 
 /// Words of a form other than `Bytes`.

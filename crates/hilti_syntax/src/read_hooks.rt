@@ -9,11 +9,11 @@ ghost use Rattle.hilti_syntax.specs.Parts.{a_priority, priority_tree, behind_hoo
 
 use crate::cursor::Cursor;
 use crate::kind::Kind;
-use crate::module::{Body, Item};
+use hilti_module::{Body, Item};
 use crate::read_arguments::read_arguments;
 use crate::read_bodies::read_body;
 use crate::stop::Stop;
-use crate::types::{Name, Number, Word};
+use hilti_module::{Name, Number, Word};
 
 /// Reads what stands behind the first word of a hook, and gives the whole item.
 pub fn read_hook_rest(cursor: &mut Cursor, first: Word) -> Result<Item, Stop>

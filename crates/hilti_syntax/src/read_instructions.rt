@@ -9,10 +9,10 @@ ghost use Rattle.hilti_syntax.specs.declared.kind.Kind.TheVariants as kinds;
 
 use crate::cursor::Cursor;
 use crate::kind::Kind;
-use crate::module::{Mnemonic, Operands};
+use hilti_module::{Mnemonic, Operands};
 use crate::read_operands::read_operands;
 use crate::stop::Stop;
-use crate::types::Word;
+use hilti_module::Word;
 use hilti_lexer::{Token, TokenKind};
 
 /// Any words, reserved ones too.

@@ -8,7 +8,7 @@ ghost use Rattle.hilti_syntax.specs.Parts.{a_value, value_tree, a_result, items_
 
 use crate::cursor::Cursor;
 use crate::kind::Kind;
-use crate::module::{Item, Items, Literal, Parameter};
+use hilti_module::{Item, Items, Literal, Parameter};
 use crate::read_arguments::read_arguments;
 use crate::read_bodies::read_body;
 use crate::read_hooks::read_hook_rest;
@@ -17,7 +17,7 @@ use crate::read_parameters::read_parameter;
 use crate::read_shapes::read_shape;
 use crate::read_types::read_type;
 use crate::stop::Stop;
-use crate::types::TypeText;
+use hilti_module::TypeText;
 
 /// What begins an item: a word or what else begins a type, `void`, `hook`, `global` or `type`.
 const ITEM_STARTS: [Kind; 22] = [

@@ -9,13 +9,13 @@ ghost use Rattle.hilti_syntax.specs.Parts.{handler, handlers_tree, label as a_la
 
 use crate::cursor::{Cursor, WORDS};
 use crate::kind::Kind;
-use crate::module::{Handler, Handlers, Line};
+use hilti_module::{Handler, Handlers, Line};
 use crate::names::read_name;
 use crate::read_chosen::read_word_of;
 use crate::read_instructions::{read_behind_first_word, read_instruction};
 use crate::read_marks::read_at_sign;
 use crate::stop::Stop;
-use crate::types::{Name, Word};
+use hilti_module::{Name, Word};
 use hilti_base::Place;
 
 /// Reserved words but `local`.

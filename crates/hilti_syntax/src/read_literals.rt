@@ -5,16 +5,16 @@ ghost use Rattle.hilti_syntax.specs.Modules.{RuleName.LiteralText as a_literal, 
 ghost use Rattle.hilti_syntax.specs.Readers.{ReadsTree};
 ghost use Rattle.hilti_syntax.specs.Spelled.{between_marks, keyword_tree, maybe_tree};
 ghost use Rattle.hilti_syntax.specs.Items.{literal_tree, literal_spot, seconds_tree, time_part};
-ghost use Rattle.hilti_syntax.specs.declared.module.Simple.TheVariants as simples;
+ghost use Rattle.hilti_module.specs.declared.module.Simple.TheVariants as simples;
 ghost use Rattle.hilti_syntax.specs.Operands.{values, truths, second_kinds, is_one_token};
 
 use crate::cursor::Cursor;
 use crate::keyword::Keyword;
 use crate::kind::Kind;
-use crate::module::{Literal, Seconds};
+use hilti_module::{Literal, Seconds};
 use crate::names::read_name;
 use crate::stop::Stop;
-use crate::types::Number;
+use hilti_module::Number;
 use hilti_lexer::{Token, TokenKind};
 
 /// Literals of one token that is no word.

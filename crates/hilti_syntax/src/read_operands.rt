@@ -12,7 +12,7 @@ ghost use Rattle.hilti_syntax.specs.Operands.{Steps};
 
 use crate::cursor::Cursor;
 use crate::kind::Kind;
-use crate::module::{Operand, Operands, Simples};
+use hilti_module::{Operand, Operands, Simples};
 use crate::read_literals::{TIME_WORDS, read_seconds};
 use crate::read_marks::read_open_paren;
 use crate::read_simple::{read_other, read_simple, timed};

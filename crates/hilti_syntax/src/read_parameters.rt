@@ -7,7 +7,7 @@ ghost use Rattle.hilti_syntax.specs.Items.{parameter_tree, parameters_tree};
 
 use crate::cursor::Cursor;
 use crate::kind::Kind;
-use crate::module::{Parameter, Parameters};
+use hilti_module::{Parameter, Parameters};
 use crate::read_types::read_type;
 use crate::stop::Stop;
 

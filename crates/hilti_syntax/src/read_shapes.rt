@@ -10,12 +10,12 @@ ghost use Rattle.hilti_syntax.specs.Items.{shape_tree, parameters_tree, fields_t
 
 use crate::cursor::Cursor;
 use crate::kind::Kind;
-use crate::module::{Fields, Parameters, Shape};
+use hilti_module::{Fields, Parameters, Shape};
 use crate::names::read_name;
 use crate::read_forms::read_fields;
 use crate::read_parameters::read_parameters;
 use crate::stop::Stop;
-use crate::types::{Name, Words};
+use hilti_module::{Name, Words};
 use hilti_base::Place;
 
 /// Reads what a declared type is.

@@ -10,13 +10,13 @@ ghost use Rattle.hilti_syntax.specs.Operands.{word_operands, plain_spot, IsOneTo
 use crate::cursor::Cursor;
 use crate::keyword::Keyword;
 use crate::kind::Kind;
-use crate::module::{Literal, Seconds, Simple};
+use hilti_module::{Literal, Seconds, Simple};
 use crate::names::{read_behind, read_name};
 use crate::read_literals::{TIME_WORDS, VALUES, read_maybe_seconds, read_value, time_literal};
 use crate::read_marks::{read_at_sign, read_star};
 use crate::read_types::{CONTAINERS, PARAMETRIC, read_container, read_parametric};
 use crate::stop::Stop;
-use crate::types::{Name, PlainInner, PlainType, Word};
+use hilti_module::{Name, PlainInner, PlainType, Word};
 
 /// Operands of one word.
 const WORD_OPERANDS: [Kind; 12] = [

@@ -14,7 +14,7 @@ use crate::read_words::{
     read_single,
 };
 use crate::stop::Stop;
-use crate::types::{Container, InnerText, Parametric, TypeText, TypeTexts};
+use hilti_module::{Container, InnerText, Parametric, TypeText, TypeTexts};
 use sqlite_items::Boxed;
 
 /// Words that begin types with something between `<` and `>`.

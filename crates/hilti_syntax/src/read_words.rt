@@ -10,7 +10,7 @@ use crate::cursor::Cursor;
 use crate::keyword::Keyword;
 use crate::kind::Kind;
 use crate::stop::Stop;
-use crate::types::{Double, PlainInner, PlainType, Single};
+use hilti_module::{Double, PlainInner, PlainType, Single};
 use hilti_base::Place;
 
 /// Types of one word.

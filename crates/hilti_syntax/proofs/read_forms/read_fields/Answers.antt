@@ -1,6 +1,6 @@
 use Rattle.std.proofs.Common.{◌∙◌, sym, ap, List, [], ◌∷◌, ◌++◌}
 use Rattle.hilti_grammar.specs.Runs.{Runs.FirstFails}
-use Rattle.hilti_syntax.specs.declared.module.Field.{Field}
+use Rattle.hilti_module.specs.declared.module.Field.{Field}
 use Rattle.hilti_syntax.specs.Items.{field_tree}
 use Rattle.hilti_grammar.specs.Grammar.{Symbol.Rule}
 use Rattle.hilti_syntax.specs.Modules.{RuleName.FieldText as a_field}

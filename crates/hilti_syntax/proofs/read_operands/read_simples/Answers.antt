@@ -1,7 +1,7 @@
 use Rattle.std.proofs.Common.{◌∙◌, sym, ap, List, [], ◌∷◌, ◌++◌}
 use Rattle.hilti_grammar.specs.Runs.{Runs.FirstFails}
 use Rattle.hilti_grammar.specs.Grammar.{Symbol.Rule}
-use Rattle.hilti_syntax.specs.declared.module.Simple.{Simple}
+use Rattle.hilti_module.specs.declared.module.Simple.{Simple}
 use Rattle.hilti_syntax.specs.Items.{simple_tree}
 use Rattle.hilti_syntax.specs.Modules.{RuleName.SimpleText as a_simple}
 use Rattle.hilti_syntax.proofs.Exits.{exits, gives_up}

@@ -1,6 +1,6 @@
 use Rattle.std.proofs.Common.{◌∙◌, sym, ap, List, [], ◌∷◌, ◌++◌}
 use Rattle.hilti_grammar.specs.Runs.{Runs.FirstFails, Runs.Follows}
-use Rattle.hilti_syntax.specs.declared.module.Parameter.{Parameter}
+use Rattle.hilti_module.specs.declared.module.Parameter.{Parameter}
 use Rattle.hilti_syntax.specs.Items.{parameter_tree}
 use Rattle.hilti_syntax.specs.Modules.{typed_word}
 use Rattle.hilti_syntax.proofs.Exits.{exits, gives_up}

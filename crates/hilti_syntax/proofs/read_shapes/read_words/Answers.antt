@@ -1,6 +1,6 @@
 use Rattle.std.proofs.Common.{◌∙◌, sym, ap, List, [], ◌∷◌, ◌++◌}
 use Rattle.hilti_grammar.specs.Runs.{Runs.FirstFails}
-use Rattle.hilti_syntax.specs.declared.types.Word.{Word}
+use Rattle.hilti_module.specs.declared.types.Word.{Word}
 use Rattle.hilti_syntax.specs.Spelled.{word_tree}
 use Rattle.hilti_syntax.specs.Modules.{word}
 use Rattle.hilti_syntax.proofs.Exits.{exits, gives_up}

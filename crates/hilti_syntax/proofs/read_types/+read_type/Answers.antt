@@ -1,5 +1,5 @@
 use Rattle.std.proofs.Common.{◌∙◌, sym, ap, List, [], ◌∷◌, ◌++◌}
-use Rattle.hilti_syntax.specs.declared.types.TypeText.{TypeText}
+use Rattle.hilti_module.specs.declared.types.TypeText.{TypeText}
 use Rattle.hilti_grammar.specs.Runs.{Runs.FirstFails, Runs.Then, Runs.Follows, Runs.ToLeft, Runs.ToRight}
 use Rattle.hilti_syntax.proofs.Exits.{exits, gives_up, gives}
 use Rattle.hilti_syntax.proofs.ReadingTypes.{sees_parametric, sees_container, plain_is, parametric_is, named_is, int_is, tuple_is, iterator_is, ref_is, word_is, container_is, declared_is, single_boxed, double_boxed, types_begin, types_next, types_fail, types_stop, types_end, shrinks}

@@ -1,10 +1,8 @@
 //! The tree of a module: one type for each production of its grammar.
 ghost use Rattle.std.specs.Prelude.{◌≤◌};
-ghost use Rattle.hilti_syntax.specs.Counts.{module_count};
+ghost use Rattle.hilti_module.specs.Counts.{module_count};
 
-use crate::types::{
-    Container, Name, Number, Parametric, PlainInner, PlainType, TypeText, Word, Words,
-};
+use crate::types::{Container, Name, Number, Parametric, PlainType, TypeText, Word, Words};
 use hilti_base::{Blob, Collection, Place};
 
 /// A module: its name, and its items in order. It has at most 1,048,576 items, fields, constants, parameters, locals,
@@ -121,9 +119,10 @@ pub enum Line {
     },
 }
 
-/// `catch exception @target slot`
+/// `catch exception @target slot`, at its `catch`.
 #[derive(Debug, Drop)]
 pub struct Handler {
+    pub place: Place,
     pub exception: Name,
     pub target: Word,
     pub slot: Word,
@@ -160,8 +159,10 @@ pub enum Simple {
     Any { place: Place },
     Plain { place: Place, plain: PlainType },
     Parametric(Parametric),
-    /// `timer` or `timer_mgr`.
-    Inner { place: Place, word: PlainInner },
+    /// `timer`
+    Timer { place: Place },
+    /// `timer_mgr`
+    Manager { place: Place },
     Container(Container),
 }
 

@@ -1,7 +1,8 @@
 //! Names over two modules.
 use super::*;
 use hilti_base::{Blob, Collection, NoMemory, Place, Refusal};
-use hilti_syntax::{Name, Word, read_module};
+use hilti_module::{Name, Word};
+use hilti_syntax::read_module;
 use std::alloc::Global;
 use std::test::Fail;
 
