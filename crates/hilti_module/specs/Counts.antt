@@ -1,4 +1,5 @@
--- How many items, fields, constants, parameters, locals, labels, handlers, lines and operands a module has in all.
+-- How many items, fields, constants, parameters, locals, labels, handlers, lines and operands a
+-- module has in all.
 use Rattle.std.specs.Prelude.{ℕ, ◌+◌, List, length, sum_by}
 use Rattle.hilti_module.specs.declared.module.Item.{Item}
 use Rattle.hilti_module.specs.declared.module.Item.TheVariants as items
@@ -36,7 +37,8 @@ abbrev pub item_count : Item → ℕ
 item_count (items.Type name shape) = 1 + shape_count shape
 item_count (items.Global kind name value) = 1
 item_count (items.Hook name parameters) = 1 + length parameters
-item_count (items.HookBody name parameters priority body) = 1 + (length parameters + body_count body)
+item_count (items.HookBody name parameters priority body) =
+    1 + (length parameters + body_count body)
 item_count (items.Function result name parameters body) = 1 + (length parameters + body_count body)
 
 -- all items of a module and what is in them

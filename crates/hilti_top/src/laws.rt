@@ -20,7 +20,7 @@ pub fn read_or_refused()
 {
     hilti_lexer::laws::read_or_refused();
     hilti_lexer::laws::one_reading();
-    hilti_syntax::refusal_laws::never_both();
+    hilti_refusals::laws::never_both();
 }
 
 /// No texts both are accepted and refused, and texts that are accepted print one list of lines.
@@ -30,6 +30,6 @@ pub fn accepted_or_refused()
 {
     hilti_lexer::laws::read_or_refused();
     hilti_lexer::laws::one_reading();
-    hilti_syntax::refusal_laws::never_both();
+    hilti_refusals::laws::never_both();
     hilti_reading::laws::one_module();
 }
