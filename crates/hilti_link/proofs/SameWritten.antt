@@ -1,14 +1,14 @@
 -- Whether what two written types say is the same: the test passes exactly where they are equal.
 use Rattle.std.proofs.Common.{◌≡◌, refl, sym, ◌∙◌, ap, ap₂, Bool, true, false, ◌&&◌, ◌↔◌, IsTrue, eqb-true, eq-eqb}
 use Rattle.std.proofs.lemmas.Bool.{false_from_ne_true}
-use Rattle.hilti_syntax.specs.declared.types.PlainType.{PlainType}
-use Rattle.hilti_syntax.specs.declared.types.PlainType.TheVariants as plain
-use Rattle.hilti_syntax.specs.declared.types.PlainInner.{PlainInner}
-use Rattle.hilti_syntax.specs.declared.types.PlainInner.TheVariants as words
-use Rattle.hilti_syntax.specs.declared.types.Single.{Single}
-use Rattle.hilti_syntax.specs.declared.types.Single.TheVariants as singles
-use Rattle.hilti_syntax.specs.declared.types.Double.{Double}
-use Rattle.hilti_syntax.specs.declared.types.Double.TheVariants as doubles
+use Rattle.hilti_module.specs.declared.types.PlainType.{PlainType}
+use Rattle.hilti_module.specs.declared.types.PlainType.TheVariants as plain
+use Rattle.hilti_module.specs.declared.types.PlainInner.{PlainInner}
+use Rattle.hilti_module.specs.declared.types.PlainInner.TheVariants as words
+use Rattle.hilti_module.specs.declared.types.Single.{Single}
+use Rattle.hilti_module.specs.declared.types.Single.TheVariants as singles
+use Rattle.hilti_module.specs.declared.types.Double.{Double}
+use Rattle.hilti_module.specs.declared.types.Double.TheVariants as doubles
 use Rattle.hilti_scope.specs.declared.meaning.Meaning.{Meaning}
 use Rattle.hilti_scope.specs.declared.meaning.Meaning.TheVariants as means
 use Rattle.hilti_resolve.specs.Written.{Written, Plain, Int, Tuple, NoPart, Part, Iterator, Ref, InnerWord, One, Two, Named}

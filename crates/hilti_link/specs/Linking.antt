@@ -2,9 +2,9 @@
 use Rattle.std.specs.Prelude.{ℕ, suc, List, [], Bool, false, nat_eq, not, sum_by, Option, Some, None}
 use Rattle.std.specs.Option.{option_or}
 use Rattle.hilti_base.specs.declared.refusal.Refusal.{Refusal}
-use Rattle.hilti_syntax.specs.declared.module.Item.{Item}
-use Rattle.hilti_syntax.specs.declared.module.Module.{Module}
-use Rattle.hilti_syntax.specs.Counts.{module_count}
+use Rattle.hilti_module.specs.declared.module.Item.{Item}
+use Rattle.hilti_module.specs.declared.module.Module.{Module}
+use Rattle.hilti_module.specs.Counts.{module_count}
 use Rattle.hilti_scope.specs.Items.{module_named}
 use Rattle.hilti_link.specs.declared.tables.Tables.{Tables}
 use Rattle.hilti_link.specs.InTurn.{first_in_turn, behind_all}

@@ -2,7 +2,7 @@
 use Rattle.std.specs.Prelude.{◌≡◌, ℕ, List, [], map}
 use Rattle.hilti_scope.specs.declared.scope.Scope.{Scope}
 use Rattle.hilti_scope.specs.Scopes.{AreOf, Sees}
-use Rattle.hilti_syntax.specs.declared.module.Module.{Module}
+use Rattle.hilti_module.specs.declared.module.Module.{Module}
 use Rattle.hilti_link.specs.declared.standing.Context.{Context}
 use Rattle.hilti_link.specs.declared.standing.Standing.{Standing}
 use Rattle.hilti_link.specs.declared.tables.Tables.{Tables}

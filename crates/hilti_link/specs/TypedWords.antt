@@ -2,7 +2,7 @@
 use Rattle.std.specs.Prelude.{ℕ, List, [], Bool, false, ◌||◌, map, Option}
 use Rattle.std.specs.Option.{option_or}
 use Rattle.hilti_base.specs.declared.refusal.Refusal.{Refusal}
-use Rattle.hilti_syntax.specs.declared.module.Parameter.{Parameter}
+use Rattle.hilti_module.specs.declared.module.Parameter.{Parameter}
 use Rattle.hilti_types.specs.declared.value_type.ValueType.{ValueType}
 use Rattle.hilti_scope.specs.Meanings.{is_among, is_built_in}
 use Rattle.hilti_link.specs.declared.typed_words.Role.{Role}

@@ -2,15 +2,15 @@
 ghost use Rattle.std.specs.Prelude.{◌≡◌, ℕ, List, Option, None, Some, bytes_eq, cond, codes, map};
 ghost use Rattle.std.specs.List.{find, list_any};
 ghost use Rattle.std.specs.Option.{option_copied};
-ghost use Rattle.hilti_syntax.specs.declared.module.Module.{Module as AModule};
-ghost use Rattle.hilti_syntax.specs.declared.types.Parametric.{out-Parametric};
+ghost use Rattle.hilti_module.specs.declared.module.Module.{Module as AModule};
+ghost use Rattle.hilti_module.specs.declared.types.Parametric.{out-Parametric};
 ghost use Rattle.hilti_resolve.specs.Names.{first_of};
 ghost use Rattle.hilti_link.specs.Entries as spec;
 ghost use Rattle.hilti_link.specs.InTurn.{Answers};
 
 use hilti_base::{Place, Refusal};
 use hilti_scope::Modules;
-use hilti_syntax::{
+use hilti_module::{
     InnerText, Item, Module, Parameter, Parametric, PlainInner, PlainType, TypeText, Word,
 };
 

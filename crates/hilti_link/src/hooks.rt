@@ -1,7 +1,7 @@
 //! Hooks and their bodies.
 ghost use Rattle.std.specs.Prelude.{◌≡◌, ◌+◌, ◌<◌, ◌^◌, ◌++◌, ◌||◌, ℕ, List, IfOk, OnOk, length, map};
 ghost use Rattle.std.specs.List.{slice_get};
-ghost use Rattle.hilti_syntax.specs.declared.module.Module.{Module as AModule};
+ghost use Rattle.hilti_module.specs.declared.module.Module.{Module as AModule};
 ghost use Rattle.hilti_scope.specs.Items.{placed, placed_in};
 ghost use Rattle.hilti_scope.specs.Scopes.{means};
 ghost use Rattle.hilti_resolve.specs.Same.{all_same};
@@ -15,7 +15,7 @@ use crate::standing::Context;
 use hilti_base::{NoMemory, Place, Refusal};
 use hilti_resolve::{first_unknown, same_type};
 use hilti_scope::{Meaning, Modules, Scope};
-use hilti_syntax::{Item, Module, Name, Parameter, Parameters};
+use hilti_module::{Item, Module, Name, Parameter, Parameters};
 use std::alloc::Global;
 
 const UNKNOWN: u32 = 21;

@@ -1,7 +1,7 @@
 //! Items, and what they declare.
 ghost use Rattle.std.specs.Prelude.{◌≡◌, Option, OnOk, IfOk};
 ghost use Rattle.std.specs.Option.{option_map};
-ghost use Rattle.hilti_syntax.specs.declared.types.Number.{Number};
+ghost use Rattle.hilti_module.specs.declared.types.Number.{Number};
 ghost use Rattle.hilti_link.specs.InTurn.{Answers};
 ghost use Rattle.hilti_link.specs.Items as spec;
 ghost use Rattle.hilti_link.specs.Items.{Seen};
@@ -18,7 +18,7 @@ use crate::typed_words::{Role, read_slots, read_words};
 use hilti_base::{Blob, Refusal};
 use hilti_resolve::{check_literal, read_type};
 use hilti_scope::Scope;
-use hilti_syntax::{Body, Item, Literal, Name, Parameter, Parameters, Shape, TypeText, Word};
+use hilti_module::{Body, Item, Literal, Name, Parameter, Parameters, Shape, TypeText, Word};
 use hilti_types::{Declared, ValueType, ValueTypes};
 use std::alloc::Global;
 

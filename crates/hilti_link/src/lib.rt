@@ -8,8 +8,6 @@ mod linking;
 mod shapes;
 mod standing;
 mod tables;
-#[cfg(test)]
-mod tests;
 mod typed_words;
 
 pub use hilti_scope::Modules;

@@ -17,7 +17,7 @@ use crate::tables::Tables;
 use crate::typed_words::refuse_again;
 use hilti_base::Refusal;
 use hilti_scope::{Declarations, Modules};
-use hilti_syntax::Module;
+use hilti_module::Module;
 use std::alloc::Global;
 
 /// Modules in word order, and what they declare. They have at most 16 times the items and other parts that one module may

@@ -20,7 +20,7 @@ use hilti_resolve::{
     value_of as read_value,
 };
 use hilti_scope::{FirstPlaces, Meaning, Scope};
-use hilti_syntax::{Field, Form, Name, Parameter, Word};
+use hilti_module::{Field, Form, Name, Parameter, Word};
 use hilti_types::{Member, Members, OverlayField, OverlayFields, ValueType};
 use std::alloc::Global;
 

@@ -1,6 +1,6 @@
 //! Items where they stand.
 ghost use Rattle.std.specs.Prelude.{◌≡◌, ◌++◌, ℕ, List, IfOk, OnOk};
-ghost use Rattle.hilti_syntax.specs.declared.module.Module.{Module as AModule};
+ghost use Rattle.hilti_module.specs.declared.module.Module.{Module as AModule};
 ghost use Rattle.hilti_scope.specs.Scopes.{AreOf, Sees};
 ghost use Rattle.hilti_link.specs.InTurn.{Answers};
 ghost use Rattle.hilti_link.specs.Items as spec;
@@ -14,7 +14,7 @@ use crate::tables::Site;
 use crate::typed_words::refuse_again;
 use hilti_base::{Blob, NoMemory, Refusal};
 use hilti_scope::{Declarations, Scope, is_built_in};
-use hilti_syntax::{Name, Parameter, Word};
+use hilti_module::{Name, Parameter, Word};
 use std::alloc::Global;
 
 /// What all items of some modules see: what the modules declare, and their hooks.

@@ -11,7 +11,7 @@ use crate::tables::Tables;
 use hilti_base::Refusal;
 use hilti_resolve::read_type;
 use hilti_scope::{FirstPlaces, Scope, is_built_in};
-use hilti_syntax::{Parameter, Word};
+use hilti_module::{Parameter, Word};
 use hilti_types::{ValueType, ValueTypes};
 use std::alloc::Global;
 

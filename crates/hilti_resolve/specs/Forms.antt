@@ -1,8 +1,8 @@
 -- The forms of the fields of overlays.
 use Rattle.std.specs.Prelude.{ℕ, ◌==◌, ◌&&◌, nat_le, nat_lt, Bool, true, false, cond, codes, bytes_eq, List, Option, Some, None}
-use Rattle.hilti_syntax.specs.declared.module.Bits.{Bits}
-use Rattle.hilti_syntax.specs.declared.module.Form.{Form}
-use Rattle.hilti_syntax.specs.declared.module.Form.TheVariants as forms
+use Rattle.hilti_module.specs.declared.module.Bits.{Bits}
+use Rattle.hilti_module.specs.declared.module.Form.{Form}
+use Rattle.hilti_module.specs.declared.module.Form.TheVariants as forms
 use Rattle.hilti_types.specs.declared.value_type.ValueType.{ValueType}
 use Rattle.hilti_types.specs.declared.value_type.ValueType.TheVariants as types
 use Rattle.hilti_resolve.specs.declared.form.FieldForm.{FieldForm}

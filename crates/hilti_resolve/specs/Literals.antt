@@ -4,12 +4,12 @@ use Rattle.std.specs.List.{list_any, slice_get}
 use Rattle.hilti_base.specs.declared.names.Place.{Place}
 use Rattle.hilti_base.specs.declared.refusal.Refusal.{Refusal}
 use Rattle.hilti_base.specs.declared.refusal.Refusal.TheVariants.{At}
-use Rattle.hilti_syntax.specs.declared.types.Name.{Name}
-use Rattle.hilti_syntax.specs.declared.types.Number.{Number}
-use Rattle.hilti_syntax.specs.declared.module.Literal.{Literal}
-use Rattle.hilti_syntax.specs.declared.module.Literal.TheVariants as literals
-use Rattle.hilti_syntax.specs.declared.module.Seconds.{Seconds}
-use Rattle.hilti_syntax.specs.declared.module.Seconds.TheVariants as seconds
+use Rattle.hilti_module.specs.declared.types.Name.{Name}
+use Rattle.hilti_module.specs.declared.types.Number.{Number}
+use Rattle.hilti_module.specs.declared.module.Literal.{Literal}
+use Rattle.hilti_module.specs.declared.module.Literal.TheVariants as literals
+use Rattle.hilti_module.specs.declared.module.Seconds.{Seconds}
+use Rattle.hilti_module.specs.declared.module.Seconds.TheVariants as seconds
 use Rattle.hilti_types.specs.declared.declared.Declared.{Declared}
 use Rattle.hilti_types.specs.declared.declared.Declared.TheVariants as tabled
 use Rattle.hilti_types.specs.declared.value_type.ValueType.{ValueType}

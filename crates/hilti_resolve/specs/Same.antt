@@ -1,13 +1,13 @@
 -- Whether what two written types say is the same, as a test.
 use Rattle.std.specs.Prelude.{ℕ, nat_eq, Bool, true, false, ◌&&◌, List, [], ◌∷◌}
-use Rattle.hilti_syntax.specs.declared.types.PlainType.{PlainType}
-use Rattle.hilti_syntax.specs.declared.types.PlainType.TheVariants as plain
-use Rattle.hilti_syntax.specs.declared.types.PlainInner.{PlainInner}
-use Rattle.hilti_syntax.specs.declared.types.PlainInner.TheVariants as words
-use Rattle.hilti_syntax.specs.declared.types.Single.{Single}
-use Rattle.hilti_syntax.specs.declared.types.Single.TheVariants as singles
-use Rattle.hilti_syntax.specs.declared.types.Double.{Double}
-use Rattle.hilti_syntax.specs.declared.types.Double.TheVariants as doubles
+use Rattle.hilti_module.specs.declared.types.PlainType.{PlainType}
+use Rattle.hilti_module.specs.declared.types.PlainType.TheVariants as plain
+use Rattle.hilti_module.specs.declared.types.PlainInner.{PlainInner}
+use Rattle.hilti_module.specs.declared.types.PlainInner.TheVariants as words
+use Rattle.hilti_module.specs.declared.types.Single.{Single}
+use Rattle.hilti_module.specs.declared.types.Single.TheVariants as singles
+use Rattle.hilti_module.specs.declared.types.Double.{Double}
+use Rattle.hilti_module.specs.declared.types.Double.TheVariants as doubles
 use Rattle.hilti_scope.specs.declared.meaning.Meaning.{Meaning}
 use Rattle.hilti_scope.specs.declared.meaning.Meaning.TheVariants as means
 use Rattle.hilti_resolve.specs.Written.{Written, Written.Plain, Written.Int, Written.Tuple, Written.NoPart, Written.Part, Written.Iterator, Written.Ref, Written.InnerWord, Written.One, Written.Two, Written.Named}

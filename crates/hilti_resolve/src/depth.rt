@@ -5,7 +5,7 @@ ghost use Rattle.hilti_scope.specs.Scopes.{means};
 ghost use Rattle.hilti_resolve.specs.Depth.{meaning_depth as depth_of_meaning, written_depth, written_parametric_depth, written_inner_depth, written_container_depth};
 
 use hilti_scope::{Meaning, Scope};
-use hilti_syntax::{Container, InnerText, Name, Parametric, TypeText, TypeTexts};
+use hilti_module::{Container, InnerText, Name, Parametric, TypeText, TypeTexts};
 
 /// The depth of a type that nests too deep: 16 is the most that is allowed, and more is not told apart.
 pub const TOO_DEEP: u32 = 17;

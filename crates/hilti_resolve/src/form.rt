@@ -2,7 +2,7 @@
 ghost use Rattle.std.specs.Prelude.{◌≡◌, ◌&&◌, nat_le, cond, Some, None};
 ghost use Rattle.hilti_resolve.specs.Forms as forms;
 
-use hilti_syntax::{Bits, Form};
+use hilti_module::{Bits, Form};
 use hilti_types::ValueType;
 
 /// The most bytes that a form `Bytes(n)` may read.

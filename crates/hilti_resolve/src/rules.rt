@@ -8,7 +8,7 @@ ghost use Rattle.hilti_resolve.specs.Values as values;
 use crate::inner_value::InnerValue;
 use hilti_base::Place;
 use hilti_scope::Meaning;
-use hilti_syntax::{PlainInner, PlainType};
+use hilti_module::{PlainInner, PlainType};
 use hilti_types::{Inner, ValueType, ValueTypes};
 
 /// The type of one word.

@@ -1,13 +1,13 @@
 //! Whether written types say the same, each in its scope. Nothing here takes memory.
 ghost use Rattle.std.specs.Prelude.{◌≡◌, ◌↔◌, IsTrue, map};
-ghost use Rattle.hilti_syntax.specs.declared.types.Name.{Name};
-ghost use Rattle.hilti_syntax.specs.declared.types.PlainInner.TheVariants as words;
+ghost use Rattle.hilti_module.specs.declared.types.Name.{Name};
+ghost use Rattle.hilti_module.specs.declared.types.PlainInner.TheVariants as words;
 ghost use Rattle.hilti_scope.specs.declared.meaning.Meaning.{Meaning};
 ghost use Rattle.hilti_scope.specs.Scopes.{means};
 ghost use Rattle.hilti_resolve.specs.Written.{says, parametric_writes, inner_writes, container_writes, Plain, InnerWord};
 
 use hilti_scope::Scope;
-use hilti_syntax::{
+use hilti_module::{
     Container, InnerText, Name, Parametric, PlainInner, PlainType, TypeText, TypeTexts,
 };
 

@@ -5,7 +5,7 @@ ghost use Rattle.hilti_resolve.specs.Names.{first_of, unknown_name as unknown_pl
 
 use hilti_base::Place;
 use hilti_scope::{Meaning, Scope};
-use hilti_syntax::{Container, InnerText, Name, Parametric, TypeText, TypeTexts};
+use hilti_module::{Container, InnerText, Name, Parametric, TypeText, TypeTexts};
 
 /// The place of the first name in a written type that means nothing.
 #[cycle(unknown)]

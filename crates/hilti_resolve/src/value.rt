@@ -13,7 +13,7 @@ use crate::rules::{
 };
 use hilti_base::Place;
 use hilti_scope::Scope;
-use hilti_syntax::{Container, Double, InnerText, Parametric, Single, TypeText, TypeTexts};
+use hilti_module::{Container, Double, InnerText, Parametric, Single, TypeText, TypeTexts};
 use hilti_types::{Inner, TypeTable, ValueType, ValueTypes, is_key};
 use sqlite_items::Boxed;
 use std::alloc::Global;

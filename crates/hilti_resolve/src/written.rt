@@ -12,7 +12,7 @@ use crate::unknown::first_unknown;
 use crate::value::value_of;
 use hilti_base::{Place, Refusal};
 use hilti_scope::Scope;
-use hilti_syntax::{Parametric, TypeText};
+use hilti_module::{Parametric, TypeText};
 use hilti_types::{TypeTable, ValueType};
 use std::alloc::Global;
 

@@ -2,13 +2,13 @@
 use Rattle.std.specs.Prelude.{ℕ, ◌+◌, nat_eq, nat_le, Bool, true, false, ◌&&◌, cond, List, [], ◌∷◌, take, codes, bytes_eq, count_by, Option, Some, None}
 use Rattle.std.specs.List.{position, slice_get, list_any}
 use Rattle.std.specs.Option.{option_map, unwrap_or}
-use Rattle.hilti_syntax.specs.declared.types.Name.{Name}
-use Rattle.hilti_syntax.specs.declared.types.Word.{Word}
-use Rattle.hilti_syntax.specs.declared.module.Module.{Module}
-use Rattle.hilti_syntax.specs.declared.module.Item.{Item}
-use Rattle.hilti_syntax.specs.declared.module.Item.TheVariants as items
-use Rattle.hilti_syntax.specs.declared.module.Shape.{Shape}
-use Rattle.hilti_syntax.specs.declared.module.Shape.TheVariants as shapes
+use Rattle.hilti_module.specs.declared.types.Name.{Name}
+use Rattle.hilti_module.specs.declared.types.Word.{Word}
+use Rattle.hilti_module.specs.declared.module.Module.{Module}
+use Rattle.hilti_module.specs.declared.module.Item.{Item}
+use Rattle.hilti_module.specs.declared.module.Item.TheVariants as items
+use Rattle.hilti_module.specs.declared.module.Shape.{Shape}
+use Rattle.hilti_module.specs.declared.module.Shape.TheVariants as shapes
 use Rattle.hilti_scope.specs.declared.meaning.Meaning.{Meaning}
 use Rattle.hilti_scope.specs.declared.meaning.Meaning.TheVariants as means
 use Rattle.hilti_scope.specs.Items.{Placed, placed, declaration, module_named, is_exception, is_tabled, is_global, is_function, is_hook}

@@ -1,9 +1,9 @@
 -- The numbers that items get.
 use Rattle.std.specs.Prelude.{ℕ, ◌+◌, ◌<◌, List}
-use Rattle.hilti_syntax.specs.declared.module.Item.{Item}
-use Rattle.hilti_syntax.specs.declared.module.Item.TheVariants as items
-use Rattle.hilti_syntax.specs.declared.module.Shape.{Shape}
-use Rattle.hilti_syntax.specs.declared.module.Shape.TheVariants as shapes
+use Rattle.hilti_module.specs.declared.module.Item.{Item}
+use Rattle.hilti_module.specs.declared.module.Item.TheVariants as items
+use Rattle.hilti_module.specs.declared.module.Shape.{Shape}
+use Rattle.hilti_module.specs.declared.module.Shape.TheVariants as shapes
 use Rattle.hilti_scope.specs.declared.meaning.Meaning.{Meaning}
 use Rattle.hilti_scope.specs.declared.meaning.Meaning.TheVariants as means
 use Rattle.hilti_scope.specs.declared.declarations.Numbers.{Numbers}

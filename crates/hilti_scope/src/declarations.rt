@@ -1,7 +1,7 @@
 //! What the items of a set of modules declare.
 ghost use Rattle.std.specs.Prelude.{◌≡◌, ◌↔◌, IsTrue, ◌+◌, ◌-◌, ◌<◌, ◌^◌, ◌++◌, ℕ, cond, List, [], ◌∷◌, length, None, Some, IfOk, OnOk};
 ghost use Rattle.std.specs.Option.{option_copied, option_or};
-ghost use Rattle.hilti_syntax.specs.declared.module.Module.{Module as AModule};
+ghost use Rattle.hilti_module.specs.declared.module.Module.{Module as AModule};
 ghost use Rattle.hilti_scope.specs.Items.{placed, placed_in, declared_word, is_word, Placed};
 ghost use Rattle.hilti_scope.specs.FirstPlaces.{place_of};
 ghost use Rattle.hilti_scope.specs.Scopes.{AreOf, place_in, seen};
@@ -11,7 +11,7 @@ ghost use Rattle.hilti_scope.specs.Gathered.{HasRoom, IsBehind, IsGathered, AreN
 use crate::first_places::FirstPlaces;
 use crate::meaning::Meaning;
 use hilti_base::{Collection, NoMemory};
-use hilti_syntax::{Item, Module, Shape, Word};
+use hilti_module::{Item, Module, Shape, Word};
 use std::alloc::Global;
 
 /// Modules in word order.

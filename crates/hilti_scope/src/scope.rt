@@ -1,7 +1,7 @@
 //! The meanings of names, as they are seen from an item of a module.
 ghost use Rattle.std.specs.Prelude.{◌≡◌, ◌++◌, ℕ, List, [], ◌∷◌, bytes_eq, OnOk, OnErr};
 ghost use Rattle.std.specs.List.{position};
-ghost use Rattle.hilti_syntax.specs.declared.module.Module.{Module as AModule};
+ghost use Rattle.hilti_module.specs.declared.module.Module.{Module as AModule};
 ghost use Rattle.hilti_scope.specs.Meanings as spec;
 ghost use Rattle.hilti_scope.specs.Scopes.{means, has_local, comes_first_in, plain_means, means_there, AreOf, Sees};
 
@@ -9,7 +9,7 @@ use crate::declarations::Declarations;
 use crate::first_places::FirstPlaces;
 use crate::meaning::Meaning;
 use hilti_base::NoMemory;
-use hilti_syntax::Name;
+use hilti_module::Name;
 use std::alloc::Global;
 
 /// What names mean, seen from one item with its parameters and locals.

@@ -1,8 +1,8 @@
 // A whole module, and the first refusals of texts that are none.
 ghost use Rattle.std.specs.Prelude.{◌≤◌, length};
 
-use super::*;
 use hilti_base::Refusal;
+use super::*;
 use std::alloc::Global;
 use std::test::Fail;
 

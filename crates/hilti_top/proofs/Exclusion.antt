@@ -4,10 +4,10 @@ use Rattle.std.specs.List.{AllByRecursion}
 use Rattle.hilti_base.specs.declared.names.Place.{Place}
 use Rattle.hilti_lexer.specs.declared.token.Token.{Token}
 use Rattle.hilti_lexer.specs.Readings.{Lexes, Refuses}
-use Rattle.hilti_syntax.specs.declared.module.Module.{Module}
-use Rattle.hilti_syntax.specs.Ends.{end_of}
+use Rattle.hilti_module.specs.declared.module.Module.{Module}
+use Rattle.hilti_pieces.specs.Ends.{end_of}
 use Rattle.hilti_syntax.specs.Items.{module_tree}
-use Rattle.hilti_syntax.specs.Refusals.{DerivesModule, NeverBoth}
+use Rattle.hilti_refusals.specs.Refusals.{DerivesModule, NeverBoth}
 use Rattle.hilti_syntax.specs.Texts.{TextIsModule, TextRefused}
 use Rattle.hilti_link.specs.Refusals.{first_refusal}
 use Rattle.hilti_reading.specs.OneModule.{OneList, OneName}

@@ -4,21 +4,21 @@ use Rattle.std.proofs.Math.Bridge.{le_prop}
 use Rattle.std.specs.Prelude.{map}
 use Rattle.std.specs.List.{AllZip}
 use Rattle.hilti_base.specs.declared.names.Place.{Place}
-use Rattle.hilti_syntax.specs.declared.types.Name.{Name}
-use Rattle.hilti_syntax.specs.declared.types.PlainInner.TheVariants as inner
-use Rattle.hilti_syntax.specs.declared.types.Word.{Word}
-use Rattle.hilti_syntax.specs.declared.module.Body.{Body}
-use Rattle.hilti_syntax.specs.declared.module.Item.{Item}
-use Rattle.hilti_syntax.specs.declared.module.Item.TheVariants as items
-use Rattle.hilti_syntax.specs.declared.module.Line.{Line}
-use Rattle.hilti_syntax.specs.declared.module.Line.TheVariants as lines
-use Rattle.hilti_syntax.specs.declared.module.Module.{Module}
-use Rattle.hilti_syntax.specs.declared.module.Operand.{Operand}
-use Rattle.hilti_syntax.specs.declared.module.Operand.TheVariants as operands
-use Rattle.hilti_syntax.specs.declared.module.Parameter.{Parameter as Declared}
-use Rattle.hilti_syntax.specs.declared.module.Simple.{Simple}
-use Rattle.hilti_syntax.specs.declared.module.Simple.TheVariants as simples
-use Rattle.hilti_syntax.specs.Counts.{module_count}
+use Rattle.hilti_module.specs.declared.types.Name.{Name}
+use Rattle.hilti_module.specs.declared.types.PlainInner.TheVariants as inner
+use Rattle.hilti_module.specs.declared.types.Word.{Word}
+use Rattle.hilti_module.specs.declared.module.Body.{Body}
+use Rattle.hilti_module.specs.declared.module.Item.{Item}
+use Rattle.hilti_module.specs.declared.module.Item.TheVariants as items
+use Rattle.hilti_module.specs.declared.module.Line.{Line}
+use Rattle.hilti_module.specs.declared.module.Line.TheVariants as lines
+use Rattle.hilti_module.specs.declared.module.Module.{Module}
+use Rattle.hilti_module.specs.declared.module.Operand.{Operand}
+use Rattle.hilti_module.specs.declared.module.Operand.TheVariants as operands
+use Rattle.hilti_module.specs.declared.module.Parameter.{Parameter as Declared}
+use Rattle.hilti_module.specs.declared.module.Simple.{Simple}
+use Rattle.hilti_module.specs.declared.module.Simple.TheVariants as simples
+use Rattle.hilti_module.specs.Counts.{module_count}
 use Rattle.hilti_syntax.specs.Texts.{TextIsModule}
 use Rattle.hilti_reading.specs.OneModule.{OneList, OneName}
 use Rattle.hilti_reading.specs.Settled.{settled_body, settled_item, settled_items, settled_line, settled_operand, settled_simple}

@@ -3,7 +3,7 @@ use Rattle.std.specs.Prelude.{◌≡◌, ℕ, suc, ◌<◌, ◌≤◌, List, [],
 use Rattle.std.specs.List.{AllByRecursion}
 use Rattle.hilti_base.specs.declared.names.Place.{Place}
 use Rattle.hilti_base.specs.declared.refusal.Refusal.TheVariants.{At}
-use Rattle.hilti_syntax.specs.declared.module.Module.{Module}
+use Rattle.hilti_module.specs.declared.module.Module.{Module}
 use Rattle.hilti_syntax.specs.Texts.{TextIsModule, TextRefused}
 use Rattle.hilti_link.specs.Refusals.{first_refusal}
 use Rattle.hilti_top.specs.declared.printing.Parameter.{Parameter}

@@ -2,24 +2,24 @@
 -- parameters and returns.
 use Rattle.std.specs.Prelude.{◌≡◌, ◌≢◌, ℕ, ◌<◌, ◌≤◌, Bool, true, false, List, [], ◌∷◌, ◌++◌, length, codes, None, IsTrue, IsSomeAnd}
 use Rattle.std.specs.List.{AllByRecursion, AllZip}
-use Rattle.hilti_syntax.specs.declared.types.TypeText.{TypeText}
-use Rattle.hilti_syntax.specs.declared.types.TypeText.TheVariants as types
-use Rattle.hilti_syntax.specs.declared.types.Parametric.TheVariants as parametric
-use Rattle.hilti_syntax.specs.declared.types.InnerText.TheVariants as inner
-use Rattle.hilti_syntax.specs.declared.types.PlainType.TheVariants as plain
-use Rattle.hilti_syntax.specs.declared.types.PlainInner.TheVariants as plain_inner
-use Rattle.hilti_syntax.specs.declared.types.Word.{Word}
-use Rattle.hilti_syntax.specs.declared.module.Module.{Module}
-use Rattle.hilti_syntax.specs.declared.module.Item.{Item}
-use Rattle.hilti_syntax.specs.declared.module.Item.TheVariants as items
-use Rattle.hilti_syntax.specs.declared.module.Parameter.{Parameter as Declared}
-use Rattle.hilti_syntax.specs.declared.module.Body.{Body}
-use Rattle.hilti_syntax.specs.declared.module.Line.{Line}
-use Rattle.hilti_syntax.specs.declared.module.Line.TheVariants as lines
-use Rattle.hilti_syntax.specs.declared.module.Mnemonic.{Mnemonic}
-use Rattle.hilti_syntax.specs.declared.module.Operand.{Operand}
-use Rattle.hilti_syntax.specs.declared.module.Operand.TheVariants as operands
-use Rattle.hilti_syntax.specs.declared.module.Simple.TheVariants as simples
+use Rattle.hilti_module.specs.declared.types.TypeText.{TypeText}
+use Rattle.hilti_module.specs.declared.types.TypeText.TheVariants as types
+use Rattle.hilti_module.specs.declared.types.Parametric.TheVariants as parametric
+use Rattle.hilti_module.specs.declared.types.InnerText.TheVariants as inner
+use Rattle.hilti_module.specs.declared.types.PlainType.TheVariants as plain
+use Rattle.hilti_module.specs.declared.types.PlainInner.TheVariants as plain_inner
+use Rattle.hilti_module.specs.declared.types.Word.{Word}
+use Rattle.hilti_module.specs.declared.module.Module.{Module}
+use Rattle.hilti_module.specs.declared.module.Item.{Item}
+use Rattle.hilti_module.specs.declared.module.Item.TheVariants as items
+use Rattle.hilti_module.specs.declared.module.Parameter.{Parameter as Declared}
+use Rattle.hilti_module.specs.declared.module.Body.{Body}
+use Rattle.hilti_module.specs.declared.module.Line.{Line}
+use Rattle.hilti_module.specs.declared.module.Line.TheVariants as lines
+use Rattle.hilti_module.specs.declared.module.Mnemonic.{Mnemonic}
+use Rattle.hilti_module.specs.declared.module.Operand.{Operand}
+use Rattle.hilti_module.specs.declared.module.Operand.TheVariants as operands
+use Rattle.hilti_module.specs.declared.module.Simple.TheVariants as simples
 use Rattle.hilti_top.specs.declared.printing.Parameter.{Parameter}
 use Rattle.hilti_top.specs.declared.printing.Parameter.TheVariants.{Time, Bytes}
 

@@ -2,7 +2,7 @@
 ghost use Rattle.std.specs.Prelude.{◌≡◌, ℕ, List};
 ghost use Rattle.std.specs.List.{AllByRecursion};
 ghost use Rattle.hilti_base.specs.declared.names.Place.{Place};
-ghost use Rattle.hilti_syntax.specs.declared.module.Module.{Module};
+ghost use Rattle.hilti_module.specs.declared.module.Module.{Module};
 ghost use Rattle.hilti_top.specs.declared.printing.Parameter.{Parameter};
 ghost use Rattle.hilti_top.specs.ModuleTexts.{AreModules, IsAccepted, IsRefused, IsShort, IsTooLong, IsUnread};
 ghost use Rattle.hilti_top.specs.Printing.{Prints};
@@ -20,7 +20,7 @@ pub fn read_or_refused()
 {
     hilti_lexer::laws::read_or_refused();
     hilti_lexer::laws::one_reading();
-    hilti_syntax::refusal_laws::never_both();
+    hilti_refusals::laws::never_both();
 }
 
 /// No texts both are accepted and refused, and texts that are accepted print one list of lines.
@@ -30,6 +30,6 @@ pub fn accepted_or_refused()
 {
     hilti_lexer::laws::read_or_refused();
     hilti_lexer::laws::one_reading();
-    hilti_syntax::refusal_laws::never_both();
+    hilti_refusals::laws::never_both();
     hilti_reading::laws::one_module();
 }

@@ -5,7 +5,7 @@ ghost use Rattle.hilti_top.specs.declared.printing.Parameter.{Parameter as APrin
 ghost use Rattle.hilti_top.specs.Printing.{AreOperands, ArePrintLines, ArePrints, IsMain, IsNameOf, IsOperand, IsPacket, IsPacketItem, IsPrint, IsPrintWord, IsReturn, IsReturnWord, Prints, is_bytes as bytes_kind, is_time as time_kind};
 
 use hilti_base::{Collection, NoMemory};
-use hilti_syntax::{
+use hilti_module::{
     Body, InnerText, Item, Line, Mnemonic, Module, Operand, Parametric, PlainInner, PlainType,
     Simple, TypeText, Word,
 };
@@ -220,8 +220,8 @@ fn is_bytes(kind: &TypeText) -> bool
 fn printed_by_packet(
     alloc: Global,
     name: &Word,
-    time: &hilti_syntax::Parameter,
-    bytes: &hilti_syntax::Parameter,
+    time: &hilti_module::Parameter,
+    bytes: &hilti_module::Parameter,
     body: &Body,
 ) -> Result<PrintLines, FormFault>
     ensures printed { IfOk result (λ printed. IsPacket name.now time.now bytes.now body.now printed) }

@@ -1,11 +1,11 @@
 use Rattle.std.proofs.Common.{◌≡◌, refl, sym, ◌∙◌, ap, ℕ, List, [], Option, None}
 use Rattle.std.specs.Option.{option_or}
 use Rattle.hilti_base.specs.declared.refusal.Refusal.{Refusal}
-use Rattle.hilti_syntax.specs.declared.types.Name.{Name}
-use Rattle.hilti_syntax.specs.declared.types.Number.{Number}
-use Rattle.hilti_syntax.specs.declared.module.Body.{Body}
-use Rattle.hilti_syntax.specs.declared.module.Item.TheVariants.{HookBody}
-use Rattle.hilti_syntax.specs.declared.module.Parameter.{Parameter}
+use Rattle.hilti_module.specs.declared.types.Name.{Name}
+use Rattle.hilti_module.specs.declared.types.Number.{Number}
+use Rattle.hilti_module.specs.declared.module.Body.{Body}
+use Rattle.hilti_module.specs.declared.module.Item.TheVariants.{HookBody}
+use Rattle.hilti_module.specs.declared.module.Parameter.{Parameter}
 use Rattle.hilti_types.specs.declared.value_type.ValueType.{ValueType}
 use Rattle.hilti_scope.specs.declared.meaning.Meaning.{Meaning}
 use Rattle.hilti_scope.specs.declared.scope.Scope.{Scope}

@@ -1,5 +1,5 @@
 use Rattle.std.proofs.Common.{◌∙◌, sym, ap, Option}
-use Rattle.hilti_syntax.specs.declared.types.TypeText.{TypeText}
+use Rattle.hilti_module.specs.declared.types.TypeText.{TypeText}
 use Rattle.hilti_link.specs.Items.{result_refusal}
 use Rattle.hilti_link.specs.Views.{view_in}
 use Rattle.hilti_link.proofs.AnsweringItems.{refuses_as, handed_on, type_refuses, type_accepted}

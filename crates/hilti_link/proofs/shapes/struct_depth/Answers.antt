@@ -1,7 +1,7 @@
 use Rattle.std.proofs.Common.{◌≡◌, ◌∙◌, ap, ℕ, min, max, nat_cmp, arith}
 use Rattle.std.specs.Ordering.{ord_max}
 use Rattle.std.proofs.lemmas.Grind.{common_steps}
-use Rattle.hilti_syntax.specs.declared.module.Parameter.{Parameter}
+use Rattle.hilti_module.specs.declared.module.Parameter.{Parameter}
 use Rattle.hilti_types.proofs.Deepest.{deepest_more}
 use Rattle.hilti_scope.specs.Scopes.{means}
 use Rattle.hilti_resolve.specs.Depth.{written_depth}

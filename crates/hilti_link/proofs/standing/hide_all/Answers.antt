@@ -1,7 +1,7 @@
 use Rattle.std.proofs.Common.{◌≡◌, sym, ◌∙◌, ap, subst, ℕ, ◌+◌, ◌<◌, List, [], ◌∷◌, ◌++◌, length, take, get_or, append_assoc, append-nil, arith}
 use Rattle.std.proofs.lemmas.List.{map_more, take_all}
-use Rattle.hilti_syntax.specs.declared.module.Module.{Module}
-use Rattle.hilti_syntax.specs.declared.module.Parameter.{Parameter}
+use Rattle.hilti_module.specs.declared.module.Module.{Module}
+use Rattle.hilti_module.specs.declared.module.Parameter.{Parameter}
 use Rattle.hilti_scope.specs.declared.scope.Scope.{Scope}
 use Rattle.hilti_scope.specs.Scopes.{Sees}
 use Rattle.hilti_link.specs.TypedWords.{names_of}

@@ -1,5 +1,5 @@
 use Rattle.std.proofs.Common.{ℕ, List, ◌++◌, take}
-use Rattle.hilti_syntax.specs.declared.module.Module.{Module}
+use Rattle.hilti_module.specs.declared.module.Module.{Module}
 use Rattle.hilti_scope.specs.Scopes.{Sees}
 use Rattle.hilti_link.specs.TypedWords.{names_of}
 use Rattle.hilti_link.proofs.standing.hide_all.Given as goal

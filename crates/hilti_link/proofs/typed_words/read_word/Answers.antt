@@ -1,7 +1,7 @@
 use Rattle.std.proofs.Common.{◌≡◌, ◌∙◌, sym, ap, ℕ, List, Bool, ◌||◌, None}
 use Rattle.std.specs.Prelude.{is_some}
 use Rattle.hilti_base.specs.declared.refusal.Refusal.{Refusal}
-use Rattle.hilti_syntax.specs.declared.module.Parameter.{Parameter}
+use Rattle.hilti_module.specs.declared.module.Parameter.{Parameter}
 use Rattle.hilti_scope.specs.FirstPlaces.{place_of}
 use Rattle.hilti_resolve.specs.Refused.{type_refusal}
 use Rattle.hilti_link.specs.declared.typed_words.Role.{Role}

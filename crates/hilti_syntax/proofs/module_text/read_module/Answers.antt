@@ -1,7 +1,7 @@
 use Rattle.std.proofs.Common.{◌∙◌, ap}
-use Rattle.hilti_syntax.specs.Pieces.{pieces_of}
-use Rattle.hilti_syntax.specs.Refusals.{first_place}
-use Rattle.hilti_syntax.specs.Ends.{end_of}
+use Rattle.hilti_pieces.specs.Pieces.{pieces_of}
+use Rattle.hilti_reader.specs.Readers.{first_place}
+use Rattle.hilti_pieces.specs.Ends.{end_of}
 use Rattle.hilti_syntax.proofs.Bounds.{pieces_within}
 use Rattle.hilti_syntax.proofs.Texts.{by_grammar, err_refusal}
 use Rattle.hilti_syntax.proofs.module_text.read_module.Goals as goal
