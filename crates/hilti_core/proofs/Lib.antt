@@ -11,6 +11,7 @@ pub mod OneSender
 pub mod Posts
 pub mod Causal
 pub mod Kept
+pub mod Journals
 pub mod Once
 pub mod Numbers
 pub mod Examples

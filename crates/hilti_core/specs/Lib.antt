@@ -8,5 +8,6 @@ pub mod History
 pub mod One
 pub mod Causes
 pub mod Kept
+pub mod Journals
 pub mod Countdown
 pub mod CountdownLaw

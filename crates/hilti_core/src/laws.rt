@@ -8,6 +8,7 @@ ghost use Rattle.hilti_core.specs.Atomic.{IsCallAtomic};
 ghost use Rattle.hilti_core.specs.One.{HasOneAnswer};
 ghost use Rattle.hilti_core.specs.Causes.{ArrivesCausally};
 ghost use Rattle.hilti_core.specs.Kept.{KeepsCore, TakesMore, AreHistories};
+ghost use Rattle.hilti_core.specs.Journals.{RunsOn, StaysOut};
 ghost use Rattle.hilti_core.specs.Machine.{Pick};
 
 use crate::body::Body;
@@ -46,4 +47,21 @@ pub fn legal_core<B: Body>()
 /// A journal that is legal over some calls is legal over more, and leaves those unfed.
 pub fn more_calls<B: Body>()
     ensures { (about : B.Data) (calls more : List Call) (limit : ℕ) (journal : List Event) → TakesMore (B.effect about) calls more limit journal }
+{}
+
+/// The core of two journals one after the other is that of the second, run from the core of the first.
+pub fn one_after_another<B: Body>()
+    ensures {
+        (about : B.Data) (calls : List Call) (limit : ℕ) (first second : List Event) →
+        RunsOn (B.effect about) calls limit first second
+    }
+{}
+
+/// A thread that is out at a worker stays out there, with the calls, log and call in progress that it has, until the
+/// worker's put.
+pub fn stays_out<B: Body>()
+    ensures {
+        (about : B.Data) (calls : List Call) (limit : ℕ) (first second : List Event) →
+        StaysOut (B.effect about) calls limit first second
+    }
 {}
