@@ -12,6 +12,9 @@ pub mod Posts
 pub mod Causal
 pub mod Kept
 pub mod Journals
+pub mod Complete
+pub mod UnderWay
+pub mod Inboxes
 pub mod Once
 pub mod Numbers
 pub mod Examples

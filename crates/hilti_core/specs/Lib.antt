@@ -9,5 +9,8 @@ pub mod One
 pub mod Causes
 pub mod Kept
 pub mod Journals
+pub mod Complete
+pub mod UnderWay
+pub mod Inboxes
 pub mod Countdown
 pub mod CountdownLaw

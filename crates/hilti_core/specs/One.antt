@@ -50,3 +50,13 @@ pub record IsOneHistory (effect : Effect) (calls : List Call) (limit : ℕ) (m :
 
 abbrev pub HasOneAnswer : Effect → List Call → ℕ → Type 0
 HasOneAnswer effect calls limit = (m : Machine) × IsOneHistory effect calls limit m
+
+-- every complete history starts as many calls as the one-worker history, where that is complete and has one sender
+pub record SameCount (some_picks one_picks : List Pick) (n m : Machine) : Type 0 where
+  pub picks : length some_picks ≡ length one_picks
+  pub started : length n.started ≡ length m.started
+
+abbrev pub HasOneCount : Effect → List Call → ℕ → Type 0
+HasOneCount effect calls limit = (m : Machine) (picks : List Pick) (n : Machine) →
+    run effect calls (one effect calls limit) ≡ Some m → IsComplete m → HasOneSender m.started →
+    run effect calls picks ≡ Some n → IsComplete n → SameCount picks (one effect calls limit) n m

@@ -5,9 +5,12 @@ ghost use Rattle.std.specs.Prelude.{ℕ, List};
 ghost use Rattle.hilti_tree.specs.declared.call.Call.{Call};
 ghost use Rattle.hilti_core.specs.declared.event.Event.{Event};
 ghost use Rattle.hilti_core.specs.Atomic.{IsCallAtomic};
-ghost use Rattle.hilti_core.specs.One.{HasOneAnswer};
+ghost use Rattle.hilti_core.specs.One.{HasOneAnswer, HasOneCount};
+ghost use Rattle.hilti_core.specs.Complete.{CompletesWithCore};
 ghost use Rattle.hilti_core.specs.Causes.{ArrivesCausally};
 ghost use Rattle.hilti_core.specs.Kept.{KeepsCore, TakesMore, AreHistories};
+ghost use Rattle.hilti_core.specs.Inboxes.{KeepsInboxes};
+ghost use Rattle.hilti_core.specs.UnderWay.{KeepsUnderWay};
 ghost use Rattle.hilti_core.specs.Journals.{RunsOn, StaysOut};
 ghost use Rattle.hilti_core.specs.Machine.{Pick};
 
@@ -63,5 +66,40 @@ pub fn stays_out<B: Body>()
     ensures {
         (about : B.Data) (calls : List Call) (limit : ℕ) (first second : List Event) →
         StaysOut (B.effect about) calls limit first second
+    }
+{}
+
+/// The history of a legal journal is complete exactly where in the core no call waits, the capture was fed, and no
+/// call in progress sends anything more.
+pub fn complete<B: Body>()
+    ensures {
+        (about : B.Data) (calls : List Call) (limit : ℕ) (journal : List Event) →
+        CompletesWithCore (B.effect about) calls limit journal
+    }
+{}
+
+/// Where the one-worker history is complete and each receiver's calls have one sender, every complete history starts
+/// as many calls.
+pub fn one_count<B: Body>()
+    ensures {
+        (about : B.Data) (calls : List Call) (limit : ℕ) →
+        HasOneCount (B.effect about) calls limit
+    }
+{}
+
+/// In every legal core the numbers of the calls in each inbox rise, and the calls started and those that wait are as
+/// many as were posted.
+pub fn inboxes<B: Body>()
+    ensures {
+        (about : B.Data) (calls : List Call) (limit : ℕ) (journal : List Event) →
+        KeepsInboxes (B.effect about) calls limit journal
+    }
+{}
+
+/// Over sound calls a call in progress was given fewer segments than it has, so a worker that has a thread may put it.
+pub fn under_way<B: Body>()
+    ensures {
+        (about : B.Data) (calls : List Call) (limit : ℕ) (journal : List Event) →
+        KeepsUnderWay (B.effect about) (B.sound about) calls limit journal
     }
 {}
