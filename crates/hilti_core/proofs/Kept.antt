@@ -86,7 +86,7 @@ counted_step effect calls limit event c d move h = go event move
       numbers = numbers_post c (Thread r) (letters (c.thread r).sent segment.items) h.numbers;
     })
 
-kept : (effect : Effect) (calls : List Call) (limit : ℕ) (journal : List Event) (c : Core) → core effect calls limit journal ≡ Some c → IsKept calls limit c
+pub kept : (effect : Effect) (calls : List Call) (limit : ℕ) (journal : List Event) (c : Core) → core effect calls limit journal ≡ Some c → IsKept calls limit c
 kept effect calls limit journal c e =
     let counted = keeps_play effect limit (Counted calls limit) (counted_step effect calls limit) journal (core_of_none calls) c e
     (record { within = omega arith; unfed = refl; numbers = λ to. All-nil (Numbered [] to) }) in

@@ -15,6 +15,7 @@ pub mod Journals
 pub mod Complete
 pub mod UnderWay
 pub mod Inboxes
+pub mod Schedule
 pub mod Once
 pub mod Numbers
 pub mod Examples

@@ -12,5 +12,6 @@ pub mod Journals
 pub mod Complete
 pub mod UnderWay
 pub mod Inboxes
+pub mod Schedule
 pub mod Countdown
 pub mod CountdownLaw

@@ -13,6 +13,7 @@ ghost use Rattle.hilti_core.specs.Inboxes.{KeepsInboxes};
 ghost use Rattle.hilti_core.specs.UnderWay.{KeepsUnderWay};
 ghost use Rattle.hilti_core.specs.Journals.{RunsOn, StaysOut};
 ghost use Rattle.hilti_core.specs.Machine.{Pick};
+ghost use Rattle.hilti_core.specs.Schedule.{RunsOneByOne};
 
 use crate::body::Body;
 
@@ -101,5 +102,15 @@ pub fn under_way<B: Body>()
     ensures {
         (about : B.Data) (calls : List Call) (limit : ℕ) (journal : List Event) →
         KeepsUnderWay (B.effect about) (B.sound about) calls limit journal
+    }
+{}
+
+/// One worker: where all calls are fed and then the suspended thread of least number has each next turn, or with none
+/// suspended the thread whose call was posted first, the starts are the one-worker history. At the end the core has
+/// its logs, calls and segments, and it is complete exactly where no call waits.
+pub fn one_by_one<B: Body>()
+    ensures {
+        (about : B.Data) (calls : List Call) (limit : ℕ) (journal : List Event) →
+        RunsOneByOne (B.effect about) calls limit journal
     }
 {}
