@@ -19,3 +19,4 @@ pub mod Schedule
 pub mod Once
 pub mod Numbers
 pub mod Examples
+pub mod CountdownExample

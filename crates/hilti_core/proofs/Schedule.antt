@@ -3,7 +3,7 @@ use Rattle.std.proofs.Common.{◌≡◌, ℕ, ◌+◌, ◌-◌, ◌<◌, ◌≤�
 use Rattle.std.specs.Prelude.{map}
 use Rattle.std.specs.List.{All}
 use Rattle.std.proofs.lemmas.List.{append-nil, length_push, map-append}
-use Rattle.std.proofs.lemmas.List.Elements.{All-nil, All-cons, All-head, All-weaker}
+use Rattle.std.proofs.lemmas.List.Elements.{All-nil, All-cons, All-head, All-tail, All-weaker}
 use Rattle.std.proofs.lemmas.Bool.{eqb-true, eq-eqb}
 use Rattle.hilti_base.specs.declared.names.ThreadId.{ThreadId}
 use Rattle.hilti_tree.specs.declared.call.Call.{Call}
@@ -23,7 +23,7 @@ use Rattle.hilti_core.proofs.Simulates.{simulates_fed, simulates_goes, simulates
 use Rattle.hilti_core.proofs.Atomic.{run_from-append, tied_first, call_atomic}
 use Rattle.hilti_core.proofs.Posts.{posts_of}
 use Rattle.hilti_core.proofs.Kept.{kept}
-use Rattle.hilti_core.proofs.Journals.{front_legal}
+use Rattle.hilti_core.proofs.Journals.{front_legal, core_more}
 use Rattle.hilti_core.proofs.Complete.{completes}
 
 -- what waits for a thread of these posts, of which the first has this number
@@ -612,3 +612,24 @@ one_by_one effect calls limit journal c e way =
       });
       first = λ fed. first_of effect calls limit c h within;
     }
+
+-- a core that is reached by feeds alone is in this order
+pub fed_in_order : (effect : Effect) (calls : List Call) (limit : ℕ) (journal : List Event) → All (λ (event : Event). event ≡ Feed) journal →
+    (c d : Core) → OneByOne effect calls limit c → play effect limit journal (Some c) ≡ Some d → OneByOne effect calls limit d
+fed_in_order effect calls limit [] feeds c d way e = subst (OneByOne effect calls limit) (some_is c d e) way
+fed_in_order effect calls limit (event ∷ more) feeds c d way e =
+    let front = front_legal effect limit more (step effect limit event c) d e in
+    let is : event ≡ Feed = All-head (λ (event : Event). event ≡ Feed) event more feeds in
+    fed_in_order effect calls limit more (All-tail (λ (event : Event). event ≡ Feed) event more feeds) front.0 d
+        (Feeding c front.0 way (ap (λ event. step effect limit event c) (sym is) ∙ front.1)) front.2
+
+pub core_fed : (effect : Effect) (calls : List Call) (limit : ℕ) (journal : List Event) (c : Core) → All (λ (event : Event). event ≡ Feed) journal →
+    core effect calls limit journal ≡ Some c → OneByOne effect calls limit c
+core_fed effect calls limit journal c feeds e = fed_in_order effect calls limit journal feeds (core_of_none calls) c (AtFirst (core_of_none calls) refl) e
+
+-- and so is the core of a journal with a turn more
+pub core_turn : (effect : Effect) (calls : List Call) (limit : ℕ) (journal : List Event) (c d : Core) (worker : ℕ) (thread : ThreadId) →
+    core effect calls limit journal ≡ Some c → OneByOne effect calls limit c → c.unfed ≡ [] → ArrivedFirst c thread.n →
+    core effect calls limit (journal ++ Take worker thread ∷ Put worker ∷ []) ≡ Some d → OneByOne effect calls limit d
+core_turn effect calls limit journal c d worker thread here way fed first there =
+    Turn c d worker thread way fed first (sym (core_more effect calls limit journal (Take worker thread ∷ Put worker ∷ []) c here) ∙ there)
