@@ -21,7 +21,7 @@ play_append effect limit (event ∷ first) [] None = refl
 play_append effect limit (event ∷ first) (next ∷ second) None = refl
 play_append effect limit (event ∷ first) second (Some c) = play_append effect limit first second (step effect limit event c)
 
-pub runs_on : (effect : Effect) (calls : List Call) (limit : ℕ) (first second : List Event) → RunsOn effect calls limit first second
+pub runs_on : (effect : Effect) (calls : List Call) (limit : ℕ) (first : List Event) → RunsOn effect calls limit first
 runs_on effect calls limit first second = play_append effect limit first second (Some (core_of_none calls))
 
 -- the core of a journal with more events behind it, where the journal's own core is known
@@ -106,6 +106,6 @@ pub seats_of : (effect : Effect) (calls : List Call) (limit : ℕ) (journal : Li
 seats_of effect calls limit journal c e =
     keeps_play effect limit (λ x. HasSeats x.thread x.out) (λ event x y move h. seats_step effect limit x y event move h) journal (core_of_none calls) c e (seats_none calls)
 
-pub stays_out : (effect : Effect) (calls : List Call) (limit : ℕ) (first second : List Event) → StaysOut effect calls limit first second
+pub stays_out : (effect : Effect) (calls : List Call) (limit : ℕ) (first : List Event) → StaysOut effect calls limit first
 stays_out effect calls limit first second c d worker r here there leaves has =
     still_play effect limit worker r second c d leaves (sym (core_more effect calls limit first second c here) ∙ there) (seats_of effect calls limit first c here) has

@@ -292,13 +292,16 @@ module _ (effect : Effect) (calls : List Call) where
               at true t =
                   let to : post.letter.to ≡ r = eqb-true post.letter.to r t in
                   let both : is.head ∷ is.rest ≡ record { sender = post.sender; message = post.letter.message; number = n } ∷ waiting_at r (suc n) more =
-                  sym is.inbox ∙ (ap c.inbox (sym to) ∙ (here ∙ ap (λ x. record { sender = post.sender; message = post.letter.message; number = n } ∷ waiting_at x (suc n) more) to)) in
-                  (post, more, record {
-                    opens = e;
-                    receiver = to;
-                    head = heads is.head (record { sender = post.sender; message = post.letter.message; number = n }) is.rest (waiting_at r (suc n) more) both;
-                    rest = tails is.head (record { sender = post.sender; message = post.letter.message; number = n }) is.rest (waiting_at r (suc n) more) both;
-                  })
+                  sym is.inbox ∙ (ap c.inbox (sym to) ∙ (here ∙ ap (λ x. record { sender = post.sender; message = post.letter.message; number = n } ∷ waiting_at x (suc n) more) to)) in (
+                    post,
+                    more,
+                    record {
+                      opens = e;
+                      receiver = to;
+                      head = heads is.head (record { sender = post.sender; message = post.letter.message; number = n }) is.rest (waiting_at r (suc n) more) both;
+                      rest = tails is.head (record { sender = post.sender; message = post.letter.message; number = n }) is.rest (waiting_at r (suc n) more) both;
+                    },
+                  )
               at false t =
                   let other : ¬ (r ≡ post.letter.to) = λ same. let k : true ≡ false = sym (eq-eqb post.letter.to r (sym same)) ∙ t in cc in
                   let behind : is.head ∷ is.rest ≡ waiting_at r (suc n) more = sym is.inbox ∙ (h.inboxes r ∙ (ap (waiting_at r n) e ∙ waiting_else r n post more other)) in
@@ -569,15 +572,18 @@ module _ (effect : Effect) (calls : List Call) (limit : ℕ) (c : Core) (h : Bet
         suspended = λ r is. none_runs c r is.running (still r) is.runs;
         inboxes = λ to. turn.inboxes to ∙ ap (waiting_at to (length turn.done)) e;
       })
-      waits still (post ∷ more) e = inr (post.letter.to, inr (
-        λ r is. none_runs c r is.running (still r) is.runs,
-        record {
-          head = record { sender = post.sender; message = post.letter.message; number = length turn.done };
-          rest = waiting_at post.letter.to (suc (length turn.done)) more;
-          inbox = turn.inboxes post.letter.to ∙ (ap (waiting_at post.letter.to (length turn.done)) e ∙ waiting_here (length turn.done) post more);
-          first = λ x. subst (All (λ (w : Waiting). length turn.done ≤ w.number)) (sym (turn.inboxes x)) (waiting_high x (length turn.done) turn.ahead);
-        },
-      ))
+      waits still (post ∷ more) e = inr (
+        post.letter.to,
+        inr (
+          λ r is. none_runs c r is.running (still r) is.runs,
+          record {
+            head = record { sender = post.sender; message = post.letter.message; number = length turn.done };
+            rest = waiting_at post.letter.to (suc (length turn.done)) more;
+            inbox = turn.inboxes post.letter.to ∙ (ap (waiting_at post.letter.to (length turn.done)) e ∙ waiting_here (length turn.done) post more);
+            first = λ x. subst (All (λ (w : Waiting). length turn.done ≤ w.number)) (sym (turn.inboxes x)) (waiting_high x (length turn.done) turn.ahead);
+          },
+        ),
+      )
 
       still : (c.thread turn.busy).running ≡ None → NothingRuns c
       still idle r = go (eqb r turn.busy) refl
@@ -589,10 +595,13 @@ module _ (effect : Effect) (calls : List Call) (limit : ℕ) (c : Core) (h : Bet
       by : (running : Option Running) (worker : Option ℕ) → (c.thread turn.busy).running ≡ running → (c.thread turn.busy).worker ≡ worker → NobodyArrived c ⊎ ((r : ℕ) × ArrivedFirst c r)
       by None worker a b = waits (still a) turn.ahead refl
       by (Some running) (Some worker) a b = absurd (let k : Some turn.busy ≡ None = sym (h.seats.sits turn.busy worker b) ∙ h.home worker in cc)
-      by (Some running) None a b = inr (turn.busy, inl (record {
-        suspended = record { running = running; runs = a; home = b };
-        least = λ x is. let same : x ≡ turn.busy = is_busy effect calls c turn x is.running is.runs in omega (arith, same);
-      }))
+      by (Some running) None a b = inr (
+        turn.busy,
+        inl (record {
+          suspended = record { running = running; runs = a; home = b };
+          least = λ x is. let same : x ≡ turn.busy = is_busy effect calls c turn x is.running is.runs in omega (arith, same);
+        }),
+      )
 
 pub one_by_one : (effect : Effect) (calls : List Call) (limit : ℕ) (journal : List Event) → RunsOneByOne effect calls limit journal
 one_by_one effect calls limit journal c e way =
@@ -604,12 +613,15 @@ one_by_one effect calls limit journal c e way =
     record {
       so_far = picks ∙ so_far effect calls limit c h within;
       ends = same;
-      outcome = λ over. let still = nothing_runs c h.seats h.home over.suspended in (atomic.0, record {
-        runs = ap (run effect calls) (sym (same over)) ∙ atomic.1;
-        threads = atomic.2.threads still;
-        segments = atomic.2.segments still;
-        complete = (completes effect calls limit journal c atomic.0 e atomic.1).still still;
-      });
+      outcome = λ over. let still = nothing_runs c h.seats h.home over.suspended in (
+        atomic.0,
+        record {
+          runs = ap (run effect calls) (sym (same over)) ∙ atomic.1;
+          threads = atomic.2.threads still;
+          segments = atomic.2.segments still;
+          complete = (completes effect calls limit journal c atomic.0 e atomic.1).still still;
+        },
+      );
       first = λ fed. first_of effect calls limit c h within;
     }
 
@@ -621,7 +633,7 @@ fed_in_order effect calls limit (event ∷ more) feeds c d way e =
     let front = front_legal effect limit more (step effect limit event c) d e in
     let is : event ≡ Feed = All-head (λ (event : Event). event ≡ Feed) event more feeds in
     fed_in_order effect calls limit more (All-tail (λ (event : Event). event ≡ Feed) event more feeds) front.0 d
-        (Feeding c front.0 way (ap (λ event. step effect limit event c) (sym is) ∙ front.1)) front.2
+    (Feeding c front.0 way (ap (λ event. step effect limit event c) (sym is) ∙ front.1)) front.2
 
 pub core_fed : (effect : Effect) (calls : List Call) (limit : ℕ) (journal : List Event) (c : Core) → All (λ (event : Event). event ≡ Feed) journal →
     core effect calls limit journal ≡ Some c → OneByOne effect calls limit c

@@ -4,7 +4,7 @@ use Rattle.std.specs.List.{All}
 use Rattle.hilti_tree.specs.declared.call.Call.{Call}
 use Rattle.hilti_core.specs.declared.event.Event.{Event}
 use Rattle.hilti_core.specs.Sending.{Effect}
-use Rattle.hilti_core.specs.Core.{Waiting, Core, core}
+use Rattle.hilti_core.specs.Core.{Waiting, Core, core, LeadsTo}
 use Rattle.hilti_core.specs.Sums.{sum_below}
 
 -- the numbers of these calls rise
@@ -20,13 +20,16 @@ NoneFrom bound c = (to : ℕ) → bound ≤ to → c.inbox to ≡ []
 abbrev pub waiting_below : ℕ → Core → ℕ
 waiting_below bound c = sum_below bound (λ to. length (c.inbox to))
 
--- in each inbox the numbers of the posts rise; calls wait for finitely many threads; the calls started and those that
--- wait are as many as were posted; so none waits exactly where as many were started
+-- in each inbox the numbers of the posts rise; calls wait for finitely many threads; the calls
+-- started and those that wait are as many as were posted; so none waits exactly where as many were
+-- started
 pub record HasInboxes (c : Core) : Type 0 where
   pub rises : (to : ℕ) → Rises (c.inbox to)
   pub bound : (bound : ℕ) × NoneFrom bound c
-  pub counts : (bound : ℕ) → NoneFrom bound c → length c.started + waiting_below bound c ≡ length c.posts
+  pub counts : (bound : ℕ) → NoneFrom bound c →
+      length c.started + waiting_below bound c ≡ length c.posts
   pub none : ((to : ℕ) → c.inbox to ≡ []) ↔ (length c.started ≡ length c.posts)
 
 abbrev pub KeepsInboxes : Effect → List Call → ℕ → List Event → Type 0
-KeepsInboxes effect calls limit journal = (c : Core) → core effect calls limit journal ≡ Some c → HasInboxes c
+KeepsInboxes effect calls limit journal = (c : Core) →
+    LeadsTo effect calls limit journal c → HasInboxes c

@@ -5,12 +5,13 @@ use Rattle.hilti_tree.specs.declared.call.Call.{Call}
 use Rattle.hilti_core.specs.declared.event.Event.{Event}
 use Rattle.hilti_core.specs.declared.event.Event.TheVariants.{Feed, Take, Put}
 use Rattle.hilti_core.specs.Sending.{Effect}
-use Rattle.hilti_core.specs.Core.{Core, play, core}
+use Rattle.hilti_core.specs.Core.{Core, play, core, LeadsTo}
 
 -- the core of one journal and another behind it is that of the other, run from the core of the one
-abbrev pub RunsOn : Effect → List Call → ℕ → List Event → List Event → Type 0
-RunsOn effect calls limit first second =
-    core effect calls limit (first ++ second) ≡ play effect limit second (core effect calls limit first)
+abbrev pub RunsOn : Effect → List Call → ℕ → List Event → Type 0
+RunsOn effect calls limit first = (second : List Event) →
+    core effect calls limit (first ++ second) ≡
+    play effect limit second (core effect calls limit first)
 
 -- an event that isn't a put of this worker
 abbrev pub IsNoPut : ℕ → Event → Type 0
@@ -24,7 +25,7 @@ pub record IsStillOut (worker r : ℕ) (c d : Core) : Type 0 where
   pub same : d.thread r ≡ c.thread r
 
 -- a thread that is out stays out, unchanged, until its worker's put
-abbrev pub StaysOut : Effect → List Call → ℕ → List Event → List Event → Type 0
-StaysOut effect calls limit first second = (c d : Core) (worker r : ℕ) →
-    core effect calls limit first ≡ Some c → core effect calls limit (first ++ second) ≡ Some d →
+abbrev pub StaysOut : Effect → List Call → ℕ → List Event → Type 0
+StaysOut effect calls limit first = (second : List Event) (c d : Core) (worker r : ℕ) →
+    LeadsTo effect calls limit first c → LeadsTo effect calls limit (first ++ second) d →
     All (IsNoPut worker) second → c.out worker ≡ Some r → IsStillOut worker r c d

@@ -6,8 +6,9 @@ use Rattle.hilti_tree.specs.declared.call.Call.{Call}
 use Rattle.hilti_core.specs.declared.event.Event.{Event}
 use Rattle.hilti_core.specs.declared.event.Event.TheVariants.{Feed, Take, Put}
 use Rattle.hilti_core.specs.Sending.{Effect}
-use Rattle.hilti_core.specs.Machine.{Machine, run, IsComplete}
+use Rattle.hilti_core.specs.Machine.{Machine, run, IsComplete, RunsTo}
 use Rattle.hilti_core.specs.Core.{Waiting, Running, Core, core_of_none, step, play, core, starts}
+use Rattle.hilti_core.specs.Core.{LeadsTo}
 use Rattle.hilti_core.specs.Atomic.{NothingWaits, SameDone}
 use Rattle.hilti_core.specs.One.{one}
 
@@ -41,13 +42,15 @@ pub record NobodyArrived (c : Core) : Type 0 where
   pub suspended : NoneSuspended c
   pub inboxes : (to : ℕ) → c.inbox to ≡ []
 
--- cores that are reached so: first all calls are fed; then whoever arrived first is taken, by any worker, and put
+-- cores that are reached so: first all calls are fed; then whoever arrived first is taken, by any
+-- worker, and put
 pub data OneByOne (effect : Effect) (calls : List Call) (limit : ℕ) : Core → Type 0 where
   AtFirst : (c : Core) → c ≡ core_of_none calls → OneByOne effect calls limit c
   Feeding : (c d : Core) → OneByOne effect calls limit c → step effect limit Feed c ≡ Some d →
       OneByOne effect calls limit d
-  Turn : (c d : Core) (worker : ℕ) (thread : ThreadId) → OneByOne effect calls limit c → c.unfed ≡ [] →
-      ArrivedFirst c thread.n → play effect limit (Take worker thread ∷ Put worker ∷ []) (Some c) ≡ Some d →
+  Turn : (c d : Core) (worker : ℕ) (thread : ThreadId) → OneByOne effect calls limit c →
+      c.unfed ≡ [] → ArrivedFirst c thread.n →
+      play effect limit (Take worker thread ∷ Put worker ∷ []) (Some c) ≡ Some d →
       OneByOne effect calls limit d
 
 -- all calls were fed, no thread is suspended, and no call waits or no more may start
@@ -57,21 +60,23 @@ pub record IsOver (limit : ℕ) (c : Core) : Type 0 where
   pub no_more : ((to : ℕ) → c.inbox to ≡ []) ⊎ (limit ≤ length c.started)
 
 -- the machine's state after the one-worker history, against a core
-pub record IsOneOutcome (effect : Effect) (calls : List Call) (limit : ℕ) (m : Machine) (c : Core) : Type 0 where
-  pub runs : run effect calls (one effect calls limit) ≡ Some m
+pub record IsOneOutcome (effect : Effect) (calls : List Call) (limit : ℕ) (m : Machine) (c : Core) :
+    Type 0 where
+  pub runs : RunsTo effect calls (one effect calls limit) m
   pub threads : (r : ℕ) → SameDone (m.thread r) (c.thread r)
   pub segments : m.segments ≡ c.takes
   pub complete : IsComplete m ↔ NothingWaits c
 
--- the starts of such a core's journal are so far the one-worker history of as many picks. At the end they are the
--- one-worker history itself; its logs, calls and segments are the core's, and it is complete exactly where no call
--- waits. Before the end somebody arrived first.
-pub record RunsOne (effect : Effect) (calls : List Call) (limit : ℕ) (journal : List Event) (c : Core) : Type 0 where
+-- the starts of such a core's journal are so far the one-worker history of as many picks. At the
+-- end they are the one-worker history itself; its logs, calls and segments are the core's, and it
+-- is complete exactly where no call waits. Before the end somebody arrived first.
+pub record RunsOne (effect : Effect) (calls : List Call) (limit : ℕ) (journal : List Event)
+    (c : Core) : Type 0 where
   pub so_far : starts effect calls limit journal ≡ one effect calls (length c.started)
   pub ends : IsOver limit c → starts effect calls limit journal ≡ one effect calls limit
   pub outcome : IsOver limit c → ((m : Machine) × IsOneOutcome effect calls limit m c)
   pub first : c.unfed ≡ [] → NobodyArrived c ⊎ ((r : ℕ) × ArrivedFirst c r)
 
 abbrev pub RunsOneByOne : Effect → List Call → ℕ → List Event → Type 0
-RunsOneByOne effect calls limit journal = (c : Core) →
-    core effect calls limit journal ≡ Some c → OneByOne effect calls limit c → RunsOne effect calls limit journal c
+RunsOneByOne effect calls limit journal = (c : Core) → LeadsTo effect calls limit journal c →
+    OneByOne effect calls limit c → RunsOne effect calls limit journal c

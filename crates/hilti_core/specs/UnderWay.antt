@@ -5,7 +5,7 @@ use Rattle.hilti_tree.specs.declared.call.Call.{Call}
 use Rattle.hilti_core.specs.declared.event.Event.{Event}
 use Rattle.hilti_core.specs.declared.event.Event.TheVariants.{Put}
 use Rattle.hilti_core.specs.Sending.{Effect}
-use Rattle.hilti_core.specs.Core.{Running, Core, step, core}
+use Rattle.hilti_core.specs.Core.{Running, Core, step, core, LeadsTo}
 
 -- a call in progress was given fewer segments than it has
 abbrev pub HasSegmentsLeft : Effect → Core → Type 0
@@ -23,4 +23,4 @@ pub record IsUnderWay (effect : Effect) (limit : ℕ) (c : Core) : Type 0 where
 
 abbrev pub KeepsUnderWay : Effect → (Call → Type 0) → List Call → ℕ → List Event → Type 0
 KeepsUnderWay effect sound calls limit journal = (c : Core) →
-    All sound calls → core effect calls limit journal ≡ Some c → IsUnderWay effect limit c
+    All sound calls → LeadsTo effect calls limit journal c → IsUnderWay effect limit c
