@@ -1,11 +1,10 @@
 -- Where the history of a journal is complete, told by the core.
-use Rattle.std.proofs.Common.{◌≡◌, ℕ, Bool, true, false, cond, List, [], ◌∷◌, ◌++◌, Some, None, refl, ap, sym, ◌∙◌, subst, eqb}
-use Rattle.std.specs.Prelude.{◌↔◌}
+use Rattle.std.proofs.Common.{◌≡◌, ℕ, Bool, true, false, cond, List, [], ◌∷◌, ◌++◌, Some, refl, ap, sym, ◌∙◌, subst, eqb}
 use Rattle.hilti_tree.specs.declared.call.Call.{Call}
 use Rattle.hilti_core.specs.declared.event.Event.{Event}
 use Rattle.hilti_core.specs.Sending.{Sender, Sender.Capture, Sender.Thread, Message, messages, Effect}
-use Rattle.hilti_core.specs.Machine.{Machine, run, IsComplete}
-use Rattle.hilti_core.specs.Core.{Waiting, Core, core, starts}
+use Rattle.hilti_core.specs.Machine.{Machine, IsComplete}
+use Rattle.hilti_core.specs.Core.{Waiting, Core}
 use Rattle.hilti_core.specs.Atomic.{from_sender, to_come, to_feed, Compares, NothingRuns, NothingWaits}
 use Rattle.hilti_core.specs.Complete.{NothingComes, CompletesWith, CompletesWithCore}
 use Rattle.hilti_core.proofs.Lists.{same_sender_refl}

@@ -2,12 +2,11 @@
 use Rattle.std.proofs.Common.{◌≡◌, ℕ, ◌==◌, cond, List, [], ◌∷◌, length, drop, decimal, Option, Some, None, refl, ap, ◌∙◌}
 use Rattle.hilti_tree.specs.declared.call.Call.{Call}
 use Rattle.hilti_tree.specs.declared.tree.Tree.TheVariants as variants
-use Rattle.hilti_core.specs.declared.pieces.Segment.{Segment}
 use Rattle.hilti_core.specs.declared.event.Event.{Event}
 use Rattle.hilti_core.specs.declared.event.Event.TheVariants.{Feed, Take, Put}
 use Rattle.hilti_core.specs.Sending.{Text, Sender.Capture, Sender.Thread, Effect}
 use Rattle.hilti_core.specs.Machine.{Pick}
-use Rattle.hilti_core.specs.Core.{Running, Core, left, put_by, put_of, step, play, core_of_none, core, starts, picks_of}
+use Rattle.hilti_core.specs.Core.{Core, left, put_by, put_of, step, play, core_of_none, core, starts, picks_of}
 use Rattle.hilti_core.specs.Countdown.{countdown, effect_of}
 use Rattle.hilti_core.proofs.Numbers.{number_is}
 

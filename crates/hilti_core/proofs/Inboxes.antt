@@ -1,5 +1,5 @@
 -- What waits in the inboxes: the calls posted and not started, in the order of posting.
-use Rattle.std.proofs.Common.{◌≡◌, ℕ, ◌+◌, ◌<◌, ◌≤◌, zero, suc, Bool, true, false, cond, List, [], ◌∷◌, ◌++◌, length, Some, refl, ap, sym, ◌∙◌, subst, arith, eqb, length-append}
+use Rattle.std.proofs.Common.{◌≡◌, ℕ, ◌+◌, ◌<◌, ◌≤◌, zero, suc, Bool, true, false, cond, List, [], ◌∷◌, ◌++◌, length, refl, ap, sym, ◌∙◌, subst, arith, eqb, length-append}
 use Rattle.std.specs.Prelude.{map}
 use Rattle.std.specs.List.{All}
 use Rattle.std.proofs.lemmas.List.{nil_from_length, length-map}
@@ -11,11 +11,11 @@ use Rattle.hilti_core.specs.declared.event.Event.{Event}
 use Rattle.hilti_core.specs.declared.event.Event.TheVariants.{Feed, Take, Put}
 use Rattle.hilti_core.specs.Sending.{Sender, Sender.Capture, Sender.Thread, Letter, letters, Effect, put_at}
 use Rattle.hilti_core.specs.Machine.{Start}
-use Rattle.hilti_core.specs.Core.{Waiting, Core, Post, core_of_none, arrivals, core}
+use Rattle.hilti_core.specs.Core.{Waiting, Core, Post, core_of_none, arrivals}
 use Rattle.hilti_core.specs.Causes.{start_name, post_name}
 use Rattle.hilti_core.specs.Kept.{posts_to, starts_at, waiting_name}
 use Rattle.hilti_core.specs.Sums.{sum_below}
-use Rattle.hilti_core.specs.Inboxes.{Rises, NoneFrom, waiting_below, HasInboxes, KeepsInboxes}
+use Rattle.hilti_core.specs.Inboxes.{Rises, NoneFrom, waiting_below, KeepsInboxes}
 use Rattle.hilti_core.proofs.Lists.{put_cases}
 use Rattle.hilti_core.proofs.Sums.{sum_same, sum_zero, sum_put}
 use Rattle.hilti_core.proofs.Moves.{Moves, Moves.Fed, Moves.Goes, Moves.Starts, Moves.Home, keeps_play}

@@ -1,5 +1,5 @@
 -- The order of one worker: its starts are the one-worker history.
-use Rattle.std.proofs.Common.{◌≡◌, ℕ, ◌+◌, ◌-◌, ◌<◌, ◌≤◌, zero, suc, Bool, true, false, cond, List, [], ◌∷◌, ◌++◌, length, drop, Option, Some, None, refl, ap, sym, ◌∙◌, subst, arith, append_assoc, eqb, length-append, ◌⊎◌, inl, inr}
+use Rattle.std.proofs.Common.{◌≡◌, ℕ, ◌+◌, ◌-◌, ◌≤◌, zero, suc, Bool, true, false, cond, List, [], ◌∷◌, ◌++◌, length, drop, Option, Some, None, refl, ap, sym, ◌∙◌, subst, arith, append_assoc, eqb, length-append, ◌⊎◌, inl, inr}
 use Rattle.std.specs.Prelude.{map}
 use Rattle.std.specs.List.{All}
 use Rattle.std.proofs.lemmas.List.{append-nil, length_push, map-append}
@@ -11,13 +11,13 @@ use Rattle.hilti_core.specs.declared.pieces.Segment.{Segment}
 use Rattle.hilti_core.specs.declared.event.Event.{Event}
 use Rattle.hilti_core.specs.declared.event.Event.TheVariants.{Feed, Take, Put}
 use Rattle.hilti_core.specs.Sending.{Sender, Sender.Capture, Sender.Thread, Message, Letter, letters, sends, items_of, Effect, put_at}
-use Rattle.hilti_core.specs.Machine.{Start, Machine, Pick, pick_of, machine, pick_next, after_message, run_from, run, IsComplete}
+use Rattle.hilti_core.specs.Machine.{Start, Machine, Pick, pick_of, machine, after_message, run_from, run}
 use Rattle.hilti_core.specs.Core.{Waiting, Running, Resident, Core, Post, core_of_none, arrivals, goes_on, begins, comes_home, after_segment, left, left_of, step, play, core, picks_of, starts}
-use Rattle.hilti_core.specs.Atomic.{HasSeats, Compares, NothingRuns, NothingWaits}
+use Rattle.hilti_core.specs.Atomic.{HasSeats, Compares, NothingRuns}
 use Rattle.hilti_core.specs.One.{letters_of, picks_for, one_from, one}
-use Rattle.hilti_core.specs.Schedule.{IsSuspended, NoneSuspended, IsLeastSuspended, IsFirstPosted, ArrivedFirst, NobodyArrived, OneByOne, OneByOne.AtFirst, OneByOne.Feeding, OneByOne.Turn, IsOver, IsOneOutcome, RunsOne, RunsOneByOne}
+use Rattle.hilti_core.specs.Schedule.{NoneSuspended, IsFirstPosted, ArrivedFirst, NobodyArrived, OneByOne, OneByOne.AtFirst, OneByOne.Feeding, OneByOne.Turn, IsOver, RunsOneByOne}
 use Rattle.hilti_core.proofs.Lists.{put_cases, letters-append}
-use Rattle.hilti_core.proofs.Moves.{GoesOn, Begins, ComesHome, IsFed, Moves, Moves.Fed, Moves.Goes, Moves.Starts, Moves.Home, moves, fed_core}
+use Rattle.hilti_core.proofs.Moves.{Begins, Moves, Moves.Fed, Moves.Goes, Moves.Starts, Moves.Home, moves, fed_core}
 use Rattle.hilti_core.proofs.Seats.{seats_step, seats_none}
 use Rattle.hilti_core.proofs.Simulates.{simulates_fed, simulates_goes, simulates_begins, simulates_home, the_pick, the_rest, head_here, picks_head, same_done, left_before, left_after}
 use Rattle.hilti_core.proofs.Atomic.{run_from-append, tied_first, call_atomic}
@@ -622,7 +622,8 @@ one_by_one effect calls limit journal c e way =
           complete = (completes effect calls limit journal c atomic.0 e atomic.1).still still;
         },
       );
-      first = λ fed. first_of effect calls limit c h within;
+      alone = λ r x a b. is_busy effect calls c h.turn r a.running a.runs ∙ sym (is_busy effect calls c h.turn x b.running b.runs);
+      first = first_of effect calls limit c h within;
     }
 
 -- a core that is reached by feeds alone is in this order

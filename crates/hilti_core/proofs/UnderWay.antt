@@ -1,20 +1,22 @@
 -- Over sound calls a call in progress has a segment left.
-use Rattle.std.proofs.Common.{◌≡◌, ℕ, ◌<◌, zero, suc, List, [], ◌∷◌, length, drop, Option, Some, None, refl, ap, sym, ◌∙◌, subst, arith}
+use Rattle.std.proofs.Common.{◌≡◌, ℕ, ◌<◌, zero, suc, List, [], ◌∷◌, length, drop, Some, refl, ap, sym, ◌∙◌, subst, arith}
+use Rattle.std.specs.Prelude.{◌↔◌}
 use Rattle.std.specs.List.{All}
 use Rattle.std.proofs.lemmas.List.Elements.{All-head}
 use Rattle.hilti_tree.specs.declared.call.Call.{Call}
 use Rattle.hilti_core.specs.declared.pieces.Segment.{Segment}
+use Rattle.hilti_core.specs.declared.pieces.End.TheVariants.{Yielded}
 use Rattle.hilti_core.specs.declared.event.Event.{Event}
 use Rattle.hilti_core.specs.declared.event.Event.TheVariants.{Feed, Take, Put}
 use Rattle.hilti_core.specs.Sending.{Effect}
-use Rattle.hilti_core.specs.Core.{Waiting, Running, Resident, Core, core_of_none, left, left_of, after_segment, finished_after, running_after, put_by, put_of, step, core}
+use Rattle.hilti_core.specs.Core.{Waiting, Running, Resident, Core, core_of_none, left, left_of, after_segment, finished_after, running_after, put_by, put_of, core}
 use Rattle.hilti_core.specs.Atomic.{HasSeats}
 use Rattle.hilti_core.specs.Body.{EndsOnce, HasSegments}
-use Rattle.hilti_core.specs.Kept.{IsSoundCore, KeepsCore}
-use Rattle.hilti_core.specs.UnderWay.{HasSegmentsLeft, MayPut, KeepsUnderWay}
+use Rattle.hilti_core.specs.Kept.{IsSoundCore}
+use Rattle.hilti_core.specs.UnderWay.{HasSegmentsLeft, MayPut, EndsByRest, KeepsUnderWay}
 use Rattle.hilti_core.proofs.Lists.{put_cases, drop_next}
 use Rattle.hilti_core.proofs.Moves.{Moves, Moves.Fed, Moves.Goes, Moves.Starts, Moves.Home, keeps_play}
-use Rattle.hilti_core.proofs.Kept.{sound_step, sound_first, keeps_core}
+use Rattle.hilti_core.proofs.Kept.{sound_step, sound_first}
 use Rattle.hilti_core.proofs.Journals.{seats_of}
 
 -- a list that ends once isn't empty
@@ -33,6 +35,22 @@ pub some_left : {A : Type 0} (n : ℕ) (xs : List A) → n < length xs → (y : 
 some_left n [] low = absurd (omega (arith, low))
 some_left zero (x ∷ xs) low = (x, xs, refl)
 some_left (suc n) (x ∷ xs) low = some_left n xs (omega (arith, low))
+
+-- what is left of a list that ends once ends once
+pub ends_left : (n : ℕ) (all : List Segment) (segment : Segment) (rest : List Segment) → EndsOnce all → drop n all ≡ segment ∷ rest → EndsOnce (segment ∷ rest)
+ends_left zero all segment rest h e = subst EndsOnce e h
+ends_left (suc n) [] segment rest h e = absurd h
+ends_left (suc n) (last ∷ []) segment rest h e = absurd (none n e)
+  where
+    none : (n : ℕ) → drop n [] ≡ segment ∷ rest → ⊥
+    none zero e = cc
+    none (suc n) e = cc
+ends_left (suc n) (first ∷ next ∷ more) segment rest h e = ends_left n (next ∷ more) segment rest h.1 e
+
+-- its first segment ends `Yielded` exactly where others are behind it
+pub ends_by_rest : (segment : Segment) (rest : List Segment) → EndsOnce (segment ∷ rest) → (segment.end ≡ Yielded) ↔ ¬ (rest ≡ [])
+ends_by_rest segment [] h = (λ is. absurd (h is), λ some. absurd (some refl))
+ends_by_rest segment (next ∷ more) h = (λ is e. absurd cc, λ some. h.0)
 
 module _ (effect : Effect) (sound : Call → Type 0) (segments : HasSegments effect sound) where
   -- of one thread
@@ -76,9 +94,15 @@ module _ (effect : Effect) (sound : Call → Type 0) (segments : HasSegments eff
   both_step : (limit : ℕ) (event : Event) (c d : Core) → Moves effect limit c d event → Both c → Both d
   both_step limit event c d move h = record { is_sound = sound_step effect sound segments limit event c d move h.is_sound; is_left = left_step limit event c d move h }
 
-  pub left_of_all : (calls : List Call) (limit : ℕ) (journal : List Event) (c : Core) → All sound calls → core effect calls limit journal ≡ Some c → HasSegmentsLeft effect c
-  left_of_all calls limit journal c all e = (keeps_play effect limit Both (both_step limit) journal (core_of_none calls) c e
-      (record { is_sound = sound_first effect sound segments calls all; is_left = λ r running is. absurd cc })).is_left
+  both_of : (calls : List Call) (limit : ℕ) (journal : List Event) (c : Core) → All sound calls → core effect calls limit journal ≡ Some c → Both c
+  both_of calls limit journal c all e = keeps_play effect limit Both (both_step limit) journal (core_of_none calls) c e
+      (record { is_sound = sound_first effect sound segments calls all; is_left = λ r running is. absurd cc })
+
+  ends_of : (c : Core) → Both c → EndsByRest effect c
+  ends_of c h r running segment rest runs cut =
+      let all : List Segment = effect r (c.thread r).finished running.call in
+      let ends = (segments r (c.thread r).finished running.call (h.is_sound.finished r) (h.is_sound.running r running runs)).ends in
+      ends_by_rest segment rest (ends_left running.given all segment rest ends (sym (ap (left_of effect r (c.thread r).finished) runs) ∙ cut))
 
   pub may_put : (limit : ℕ) (c : Core) → HasSeats c.thread c.out → HasSegmentsLeft effect c → MayPut effect limit c
   may_put limit c seats all worker r has =
@@ -93,5 +117,5 @@ module _ (effect : Effect) (sound : Call → Type 0) (segments : HasSegments eff
 
   pub under_way : (calls : List Call) (limit : ℕ) (journal : List Event) → KeepsUnderWay effect sound calls limit journal
   under_way calls limit journal c all e =
-      let given = left_of_all calls limit journal c all e in
-      record { given = given; puts = may_put limit c (seats_of effect calls limit journal c e) given }
+      let both = both_of calls limit journal c all e in
+      record { given = both.is_left; puts = may_put limit c (seats_of effect calls limit journal c e) both.is_left; ends = ends_of c both }

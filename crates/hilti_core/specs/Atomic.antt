@@ -6,8 +6,8 @@ use Rattle.hilti_tree.specs.declared.call.Call.{Call}
 use Rattle.hilti_core.specs.declared.event.Event.{Event}
 use Rattle.hilti_core.specs.Sending.{Sender, Sender.Capture, Sender.Thread, same_sender, Message}
 use Rattle.hilti_core.specs.Sending.{letters, sends, lines, mail, items_of, messages, Effect}
-use Rattle.hilti_core.specs.Machine.{Ran, Machine, Pick, run, IsComplete, RunsTo}
-use Rattle.hilti_core.specs.Core.{Waiting, Running, Resident, Core, left, core, starts, LeadsTo}
+use Rattle.hilti_core.specs.Machine.{Ran, Machine, Pick, IsComplete, RunsTo}
+use Rattle.hilti_core.specs.Core.{Waiting, Running, Resident, Core, left, starts, LeadsTo}
 
 -- the calls that a thread started: those that it finished, and the one in progress
 abbrev pub started_calls : List Call → Option Running → List Call

@@ -1,11 +1,11 @@
 -- Which calls come before which, and the law of causal arrival.
-use Rattle.std.specs.Prelude.{ℕ, ◌<◌, ◌≤◌, List, ◌∷◌, ◌++◌, Some, ◌≡◌, ◌⊎◌}
+use Rattle.std.specs.Prelude.{ℕ, ◌<◌, ◌≤◌, List, ◌∷◌, ◌++◌, ◌≡◌, ◌⊎◌}
 use Rattle.std.specs.List.{Contains}
 use Rattle.hilti_tree.specs.declared.call.Call.{Call}
 use Rattle.hilti_core.specs.declared.event.Event.{Event}
 use Rattle.hilti_core.specs.Sending.{Sender, Sender.Thread, Message, Effect}
-use Rattle.hilti_core.specs.Machine.{Start, Machine, run, RunsTo}
-use Rattle.hilti_core.specs.Core.{Post, Core, core, starts, LeadsTo}
+use Rattle.hilti_core.specs.Machine.{Start, Machine, RunsTo}
+use Rattle.hilti_core.specs.Core.{Post, Core, starts, LeadsTo}
 
 -- the name of a call that was sent: its sender, and its place among the calls of that sender
 pub record Name : Type 0 where

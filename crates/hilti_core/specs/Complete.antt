@@ -1,10 +1,10 @@
 -- Where the history of a journal is complete, told by the core.
-use Rattle.std.specs.Prelude.{ℕ, List, [], Some, ◌≡◌, ◌↔◌}
+use Rattle.std.specs.Prelude.{ℕ, List, [], ◌≡◌, ◌↔◌}
 use Rattle.hilti_tree.specs.declared.call.Call.{Call}
 use Rattle.hilti_core.specs.declared.event.Event.{Event}
 use Rattle.hilti_core.specs.Sending.{Effect}
-use Rattle.hilti_core.specs.Machine.{Machine, run, IsComplete, RunsTo}
-use Rattle.hilti_core.specs.Core.{Core, core, starts, LeadsTo}
+use Rattle.hilti_core.specs.Machine.{Machine, IsComplete, RunsTo}
+use Rattle.hilti_core.specs.Core.{Core, starts, LeadsTo}
 use Rattle.hilti_core.specs.Atomic.{to_come, NothingRuns, NothingWaits}
 
 -- no call in progress sends anything in the segments that weren't given yet

@@ -1,10 +1,10 @@
 -- What waits in the inboxes: the calls posted and not started, in the order of posting.
-use Rattle.std.specs.Prelude.{ℕ, ◌+◌, ◌<◌, ◌≤◌, List, [], ◌∷◌, length, Some, ◌≡◌, ◌↔◌}
+use Rattle.std.specs.Prelude.{ℕ, ◌+◌, ◌<◌, ◌≤◌, List, [], ◌∷◌, length, ◌≡◌, ◌↔◌}
 use Rattle.std.specs.List.{All}
 use Rattle.hilti_tree.specs.declared.call.Call.{Call}
 use Rattle.hilti_core.specs.declared.event.Event.{Event}
 use Rattle.hilti_core.specs.Sending.{Effect}
-use Rattle.hilti_core.specs.Core.{Waiting, Core, core, LeadsTo}
+use Rattle.hilti_core.specs.Core.{Waiting, Core, LeadsTo}
 use Rattle.hilti_core.specs.Sums.{sum_below}
 
 -- the numbers of these calls rise

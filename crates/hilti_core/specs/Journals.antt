@@ -1,5 +1,5 @@
 -- Journals one after the other, and threads that stay out.
-use Rattle.std.specs.Prelude.{ℕ, List, ◌++◌, Option, Some, ◌≡◌}
+use Rattle.std.specs.Prelude.{ℕ, List, ◌++◌, Some, ◌≡◌}
 use Rattle.std.specs.List.{All}
 use Rattle.hilti_tree.specs.declared.call.Call.{Call}
 use Rattle.hilti_core.specs.declared.event.Event.{Event}

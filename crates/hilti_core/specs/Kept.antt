@@ -5,8 +5,8 @@ use Rattle.std.specs.List.{All, Contains}
 use Rattle.hilti_tree.specs.declared.call.Call.{Call}
 use Rattle.hilti_core.specs.declared.event.Event.{Event}
 use Rattle.hilti_core.specs.Sending.{Effect}
-use Rattle.hilti_core.specs.Machine.{Start, Machine, Pick, run, RunsTo}
-use Rattle.hilti_core.specs.Core.{Waiting, Running, Core, Post, core, LeadsTo}
+use Rattle.hilti_core.specs.Machine.{Start, Machine, Pick, RunsTo}
+use Rattle.hilti_core.specs.Core.{Waiting, Running, Core, Post, LeadsTo}
 use Rattle.hilti_core.specs.Atomic.{HasSeats}
 use Rattle.hilti_core.specs.History.{IsReached}
 use Rattle.hilti_core.specs.Causes.{Name, start_name, post_name}

@@ -1,13 +1,13 @@
 -- The order of one worker: all calls are fed, then who arrived first has each next turn.
-use Rattle.std.specs.Prelude.{ℕ, ◌≤◌, List, [], ◌∷◌, length, map, Option, Some, None, ◌≡◌, ◌↔◌, ◌⊎◌}
+use Rattle.std.specs.Prelude.{ℕ, ◌≤◌, List, [], ◌∷◌, length, Some, None, ◌≡◌, ◌↔◌, ◌⊎◌}
 use Rattle.std.specs.List.{All}
 use Rattle.hilti_base.specs.declared.names.ThreadId.{ThreadId}
 use Rattle.hilti_tree.specs.declared.call.Call.{Call}
 use Rattle.hilti_core.specs.declared.event.Event.{Event}
 use Rattle.hilti_core.specs.declared.event.Event.TheVariants.{Feed, Take, Put}
 use Rattle.hilti_core.specs.Sending.{Effect}
-use Rattle.hilti_core.specs.Machine.{Machine, run, IsComplete, RunsTo}
-use Rattle.hilti_core.specs.Core.{Waiting, Running, Core, core_of_none, step, play, core, starts}
+use Rattle.hilti_core.specs.Machine.{Machine, IsComplete, RunsTo}
+use Rattle.hilti_core.specs.Core.{Waiting, Running, Core, core_of_none, step, play, starts}
 use Rattle.hilti_core.specs.Core.{LeadsTo}
 use Rattle.hilti_core.specs.Atomic.{NothingWaits, SameDone}
 use Rattle.hilti_core.specs.One.{one}
@@ -69,13 +69,15 @@ pub record IsOneOutcome (effect : Effect) (calls : List Call) (limit : ℕ) (m :
 
 -- the starts of such a core's journal are so far the one-worker history of as many picks. At the
 -- end they are the one-worker history itself; its logs, calls and segments are the core's, and it
--- is complete exactly where no call waits. Before the end somebody arrived first.
+-- is complete exactly where no call waits. At most one thread is suspended; and somebody arrived
+-- first where one is, or a call waits.
 pub record RunsOne (effect : Effect) (calls : List Call) (limit : ℕ) (journal : List Event)
     (c : Core) : Type 0 where
   pub so_far : starts effect calls limit journal ≡ one effect calls (length c.started)
   pub ends : IsOver limit c → starts effect calls limit journal ≡ one effect calls limit
   pub outcome : IsOver limit c → ((m : Machine) × IsOneOutcome effect calls limit m c)
-  pub first : c.unfed ≡ [] → NobodyArrived c ⊎ ((r : ℕ) × ArrivedFirst c r)
+  pub alone : (r x : ℕ) → IsSuspended c r → IsSuspended c x → r ≡ x
+  pub first : NobodyArrived c ⊎ ((r : ℕ) × ArrivedFirst c r)
 
 abbrev pub RunsOneByOne : Effect → List Call → ℕ → List Event → Type 0
 RunsOneByOne effect calls limit journal = (c : Core) → LeadsTo effect calls limit journal c →

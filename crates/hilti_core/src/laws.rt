@@ -87,7 +87,8 @@ pub fn inboxes<B: Body>()
     ensures { (about : B.Data) → OverJournals (KeepsInboxes (B.effect about)) }
 {}
 
-/// Over sound calls a call in progress was given fewer segments than it has, so a worker that has a thread may put it.
+/// Over sound calls a call in progress was given fewer segments than it has, so a worker that has a thread may put it;
+/// and it goes on behind a segment exactly where that ends `Yielded`.
 pub fn under_way<B: Body>()
     ensures { (about : B.Data) → OverJournals (KeepsUnderWay (B.effect about) (B.sound about)) }
 {}
