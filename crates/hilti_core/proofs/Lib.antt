@@ -16,6 +16,7 @@ pub mod Complete
 pub mod UnderWay
 pub mod Inboxes
 pub mod Schedule
+pub mod Reaches
 pub mod Once
 pub mod Numbers
 pub mod Examples

@@ -94,10 +94,10 @@ abbrev pub coming : Effect → ℕ → Resident → List Pick
 coming effect r t = picks_for r (letters t.sent (items_of (left effect r t)))
 
 -- a changed function at the number, and at others
-put_here : {A : Type 0} (f : ℕ → A) (n : ℕ) (v : A) → put_at f n v n ≡ v
+pub put_here : {A : Type 0} (f : ℕ → A) (n : ℕ) (v : A) → put_at f n v n ≡ v
 put_here f n v = ap (λ b. cond b v (f n)) (eq-eqb n n refl)
 
-put_apart : {A : Type 0} (P : ℕ → A → Type 0) (f : ℕ → A) (n : ℕ) (v : A) → P n v → ((x : ℕ) → ¬ (x ≡ n) → P x (f x)) → (x : ℕ) → P x (put_at f n v x)
+pub put_apart : {A : Type 0} (P : ℕ → A → Type 0) (f : ℕ → A) (n : ℕ) (v : A) → P n v → ((x : ℕ) → ¬ (x ≡ n) → P x (f x)) → (x : ℕ) → P x (put_at f n v x)
 put_apart {A} P f n v here there x = go (eqb x n) refl
   where
     go : (b : Bool) → eqb x n ≡ b → P x (cond b v (f x))
@@ -172,7 +172,7 @@ module _ (effect : Effect) (calls : List Call) where
         }
 
     -- a thread with a call in progress is the busy one
-    is_busy : (r : ℕ) (running : Running) → (c.thread r).running ≡ Some running → r ≡ h.busy
+    pub is_busy : (r : ℕ) (running : Running) → (c.thread r).running ≡ Some running → r ≡ h.busy
     is_busy r running runs = go (eqb r h.busy) refl
       where
         go : (b : Bool) → eqb r h.busy ≡ b → r ≡ h.busy
@@ -400,16 +400,16 @@ module _ (effect : Effect) (calls : List Call) where
         }
 
 -- nothing is out at any worker
-abbrev AllHome : Core → Type 0
+abbrev pub AllHome : Core → Type 0
 AllHome c = (worker : ℕ) → c.out worker ≡ None
 
 -- a core between turns
-record Between (effect : Effect) (calls : List Call) (c : Core) : Type 0 where
-  turn : InTurn effect calls c
-  seats : HasSeats c.thread c.out
-  home : AllHome c
+pub record Between (effect : Effect) (calls : List Call) (c : Core) : Type 0 where
+  pub turn : InTurn effect calls c
+  pub seats : HasSeats c.thread c.out
+  pub home : AllHome c
 
-nothing_runs : (c : Core) → HasSeats c.thread c.out → AllHome c → NoneSuspended c → NothingRuns c
+pub nothing_runs : (c : Core) → HasSeats c.thread c.out → AllHome c → NoneSuspended c → NothingRuns c
 nothing_runs c seats home none r = go (c.thread r).running (c.thread r).worker refl refl
   where
     go : (running : Option Running) (worker : Option ℕ) → (c.thread r).running ≡ running → (c.thread r).worker ≡ worker → (c.thread r).running ≡ None
@@ -421,7 +421,7 @@ nothing_runs c seats home none r = go (c.thread r).running (c.thread r).worker r
 none_runs : (c : Core) (r : ℕ) (running : Running) → (c.thread r).running ≡ None → (c.thread r).running ≡ Some running → ⊥
 none_runs c r running a b = let k : None ≡ Some running = sym a ∙ b in cc
 
-taken : (effect : Effect) (calls : List Call) (limit : ℕ) (c d : Core) (event : Event) (worker : ℕ) (thread : ThreadId) → event ≡ Take worker thread → Moves effect limit c d event →
+pub taken : (effect : Effect) (calls : List Call) (limit : ℕ) (c d : Core) (event : Event) (worker : ℕ) (thread : ThreadId) → event ≡ Take worker thread → Moves effect limit c d event →
     Between effect calls c → c.unfed ≡ [] → ArrivedFirst c thread.n → InTurn effect calls d × (d.unfed ≡ []) × (d.out ≡ put_at c.out worker (Some thread.n))
 taken effect calls limit c d event worker thread is_take move h fed first = go event is_take move
   where
@@ -499,7 +499,7 @@ home_again c b d worker r home first second x = ap (λ f. f x) second ∙ (ap (�
     go false = home x
 
 -- what holds of all cores in this order
-between : (effect : Effect) (calls : List Call) (limit : ℕ) (c : Core) → OneByOne effect calls limit c → Between effect calls c
+pub between : (effect : Effect) (calls : List Call) (limit : ℕ) (c : Core) → OneByOne effect calls limit c → Between effect calls c
 between effect calls limit x (AtFirst c is) = subst (Between effect calls) (sym is) (record { turn = at_first effect calls; seats = seats_none calls; home = λ worker. refl })
 between effect calls limit x (Feeding c d way e) =
     let h = between effect calls limit c way in
@@ -564,7 +564,7 @@ module _ (effect : Effect) (calls : List Call) (limit : ℕ) (c : Core) (h : Bet
           ∙ (sym (turn.path extra) ∙ ap (one effect calls) e)))
 
   -- before the end somebody arrived first
-  first_of : NobodyArrived c ⊎ ((r : ℕ) × ArrivedFirst c r)
+  pub first_of : NobodyArrived c ⊎ ((r : ℕ) × ArrivedFirst c r)
   first_of = by (c.thread turn.busy).running (c.thread turn.busy).worker refl refl
     where
       waits : NothingRuns c → (posts : List Post) → turn.ahead ≡ posts → NobodyArrived c ⊎ ((r : ℕ) × ArrivedFirst c r)

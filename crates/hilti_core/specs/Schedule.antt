@@ -1,5 +1,5 @@
 -- The order of one worker: all calls are fed, then who arrived first has each next turn.
-use Rattle.std.specs.Prelude.{ℕ, ◌≤◌, List, [], ◌∷◌, length, Some, None, ◌≡◌, ◌↔◌, ◌⊎◌}
+use Rattle.std.specs.Prelude.{ℕ, ◌≤◌, List, [], ◌∷◌, ◌++◌, length, Some, None, ◌≡◌, ◌↔◌, ◌⊎◌}
 use Rattle.std.specs.List.{All}
 use Rattle.hilti_base.specs.declared.names.ThreadId.{ThreadId}
 use Rattle.hilti_tree.specs.declared.call.Call.{Call}
@@ -82,3 +82,18 @@ pub record RunsOne (effect : Effect) (calls : List Call) (limit : ℕ) (journal 
 abbrev pub RunsOneByOne : Effect → List Call → ℕ → List Event → Type 0
 RunsOneByOne effect calls limit journal = (c : Core) → LeadsTo effect calls limit journal c →
     OneByOne effect calls limit c → RunsOne effect calls limit journal c
+
+-- a journal that goes on in this order behind another, to its end
+pub record GoesToEnd (effect : Effect) (calls : List Call) (limit : ℕ) (journal : List Event) :
+    Type 0 where
+  pub more : List Event
+  pub last : Core
+  pub leads : LeadsTo effect calls limit (journal ++ more) last
+  pub order : OneByOne effect calls limit last
+  pub over : IsOver limit last
+
+-- over sound calls each core in this order can go on to an end
+abbrev pub ReachesEnd : Effect → (Call → Type 0) → List Call → ℕ → List Event → Type 0
+ReachesEnd effect sound calls limit journal = (c : Core) → All sound calls →
+    LeadsTo effect calls limit journal c → OneByOne effect calls limit c →
+    GoesToEnd effect calls limit journal

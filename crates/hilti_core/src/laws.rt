@@ -14,7 +14,7 @@ ghost use Rattle.hilti_core.specs.Inboxes.{KeepsInboxes};
 ghost use Rattle.hilti_core.specs.UnderWay.{KeepsUnderWay};
 ghost use Rattle.hilti_core.specs.Journals.{RunsOn, StaysOut};
 ghost use Rattle.hilti_core.specs.Machine.{Pick};
-ghost use Rattle.hilti_core.specs.Schedule.{RunsOneByOne};
+ghost use Rattle.hilti_core.specs.Schedule.{RunsOneByOne, ReachesEnd};
 
 use crate::body::Body;
 
@@ -98,4 +98,9 @@ pub fn under_way<B: Body>()
 /// its logs, calls and segments, and it is complete exactly where no call waits.
 pub fn one_by_one<B: Body>()
     ensures { (about : B.Data) → OverJournals (RunsOneByOne (B.effect about)) }
+{}
+
+/// Over sound calls the order of one worker goes on to an end from wherever it is.
+pub fn one_ends<B: Body>()
+    ensures { (about : B.Data) → OverJournals (ReachesEnd (B.effect about) (B.sound about)) }
 {}

@@ -111,4 +111,5 @@ fn laws_hold_of_a_body() {
     laws::inboxes::<Countdown>();
     laws::under_way::<Countdown>();
     laws::one_by_one::<Countdown>();
+    laws::one_ends::<Countdown>();
 }
