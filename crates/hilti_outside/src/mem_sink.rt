@@ -28,7 +28,14 @@ impl Model for MemSink {
 
     ghost Value = { PlannedSink };
 
-    ghost view = { λ a. record { written = a.kept.items; room = a.room; fails = a.plan.fails; calls = a.plan.calls; faults = a.plan.faults; chunk = a.chunk } };
+    ghost view = { λ a. record {
+      written = a.kept.items;
+      room = a.room;
+      fails = a.plan.fails;
+      calls = a.plan.calls;
+      faults = a.plan.faults;
+      chunk = a.chunk;
+    } };
 
     ghost invariant = { λ a. (1 ≤ a.chunk) × (vec_len a.kept + a.room ≤ vec_capacity a.kept) };
 }
@@ -38,7 +45,14 @@ impl MemSink {
     /// will fail.
     pub fn new(alloc: Global, chunk: usize, fails: Numbers) -> MemSink
         requires { 1 ≤ chunk }
-        ensures { result ≡ record { written = []; room = 0; fails = fails; calls = 0; faults = 0; chunk = chunk } }
+        ensures { result ≡ record {
+          written = [];
+          room = 0;
+          fails = fails;
+          calls = 0;
+          faults = 0;
+          chunk = chunk;
+        } }
     {
         MemSink {
             kept: Vec::new(alloc),
@@ -83,7 +97,9 @@ impl Sink for MemSink {
         ensures most { IfOk result (λ n. n ≡ min (min self.old.chunk self.old.room) (length piece.now)) }
         ensures room { IfOk result (λ n. self.new.room + n ≡ self.old.room) }
         ensures calls { self.new.calls ≡ counted self.old.calls }
-        ensures fails { IsErr result ↔ (Contains self.old.fails self.new.calls ⊎ (0 < length piece.now) × (self.old.room ≡ 0)) }
+        ensures fails { IsErr result ↔
+            (Contains self.old.fails self.new.calls
+            ⊎ (0 < length piece.now) × (self.old.room ≡ 0)) }
         ensures faults { OnErr result (self.new.faults ≡ counted self.old.faults) }
         ensures left { OnErr result (self.new.room ≡ self.old.room) }
         ensures planned { self.new.fails ≡ self.old.fails }
