@@ -1,5 +1,5 @@
 -- What stands at the front of a text that has a form is what was read there, and it has one value.
-use Rattle.std.proofs.Common.{◌≡◌, ◌≢◌, ℕ, ◌+◌, ◌*◌, ◌^◌, ◌<◌, List, [], ◌∷◌, ◌++◌, length, get_or, refl, sym, ap, ◌∙◌, subst, arith, Bool, true, false}
+use Rattle.std.proofs.Common.{◌≡◌, ◌≢◌, ℕ, ◌+◌, ◌*◌, ◌^◌, ◌<◌, List, ◌∷◌, ◌++◌, get_or, refl, sym, ap, ◌∙◌, subst, arith, Bool, true, false}
 use Rattle.hilti_base.specs.Numerals.{IsNumber, IsSplit, Lacks}
 use Rattle.hilti_base.proofs.Splits.{behind_number, digits_lack, joined_lack, nowhere, one_number, one_split, longer_lacks}
 use Rattle.hilti_addr.specs.declared.net.Net.{Net}

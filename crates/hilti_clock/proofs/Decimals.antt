@@ -1,5 +1,5 @@
 -- A numeral of seconds is read in one way.
-use Rattle.std.proofs.Common.{◌≡◌, ℕ, ◌+◌, ◌*◌, ◌^◌, ◌<◌, ◌≤◌, List, refl, sym, ap, ◌∙◌, subst, inl, inr, arith}
+use Rattle.std.proofs.Common.{◌≡◌, ℕ, ◌+◌, ◌*◌, ◌^◌, ◌<◌, List, refl, sym, ◌∙◌, subst, inl, inr, arith}
 use Rattle.std.specs.Prelude.{Option, Some, None, IsNone, SomeIff}
 use Rattle.hilti_base.specs.Numerals.{IsNumber, IsSplit, Lacks, greatest}
 use Rattle.hilti_base.proofs.Splits.{behind_number, digits_lack, nowhere, one_number, one_split}

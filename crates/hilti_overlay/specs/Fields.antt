@@ -1,5 +1,5 @@
 -- Fields of packet bytes.
-use Rattle.std.specs.Prelude.{◌≡◌, ℕ, ◌+◌, ◌-◌, ◌*◌, ◌/◌, ◌%◌, ◌^◌, ◌<◌, ◌≤◌, List, take, drop, Option, Some, None, true, false}
+use Rattle.std.specs.Prelude.{ℕ, ◌+◌, ◌-◌, ◌/◌, ◌%◌, ◌^◌, ◌<◌, ◌≤◌, List, take, drop, Option, Some, None, true, false}
 use Rattle.byteorder.specs.Endian.{big_number, little_number}
 use Rattle.hilti_addr.specs.Masks.{mapped}
 use Rattle.hilti_overlay.specs.declared.field.Form.{Form}

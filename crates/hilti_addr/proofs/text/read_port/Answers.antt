@@ -1,5 +1,4 @@
 use Rattle.std.proofs.Common.{refl}
-use Rattle.hilti_addr.specs.declared.port.Port.{Port}
 use Rattle.hilti_addr.proofs.Forms.{no_slash_port, port_parts}
 use Rattle.hilti_addr.proofs.text.read_port.Goals as goal
 
