@@ -1,7 +1,7 @@
 //! Reads operands.
 #![tactic(auto)]
 
-mod read_operands;
+mod operands;
 mod read_simple;
 
-pub use read_operands::read_operands;
+pub use operands::read_operands;
