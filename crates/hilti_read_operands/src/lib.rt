@@ -1,7 +1,7 @@
 //! Reads operands.
 #![tactic(auto)]
 
-mod operands;
+mod operand_list;
 mod read_simple;
 
-pub use operands::read_operands;
+pub use operand_list::read_operands;
