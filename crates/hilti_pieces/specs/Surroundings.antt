@@ -1,11 +1,11 @@
 -- What is kept of the tokens before a token.
-use Rattle.std.specs.Prelude.{◌≡◌, ◌+◌, ◌<◌, ◌^◌, List}
+use Rattle.std.specs.Prelude.{◌≡◌, ◌+◌, ◌<◌, ◌^◌, List, Option}
 use Rattle.std.specs.List.{count_by}
 use Rattle.hilti_kinds.specs.declared.kind.Kind.{Kind}
 use Rattle.hilti_kinds.specs.declared.kind.Kind.TheVariants as kinds
 use Rattle.hilti_pieces.specs.declared.surroundings.Surroundings.{Surroundings}
 use Rattle.hilti_kinds.specs.Kinds.{is}
-use Rattle.hilti_pieces.specs.Pieces.{in_shape, behind_shape_word, behind_token}
+use Rattle.hilti_pieces.specs.Pieces.{in_shape, behind_shape_word, behind_token, kind_behind}
 
 -- it was kept of these tokens, by their kinds, the nearest first
 pub record Describes (kept : Surroundings) (before : List Kind) : Type 0 where
@@ -23,3 +23,8 @@ pub record HasRoom (kept : Surroundings) : Type 0 where
   pub close_parens : kept.parens.closing + 1 < 2 ^ 64
   pub open_angles : kept.angles.opening + 1 < 2 ^ 64
   pub close_angles : kept.angles.closing + 1 < 2 ^ 64
+
+-- the kind of the piece that a token of this kind is, behind whatever tokens it was kept of
+abbrev pub TellsPiece : Surroundings → Kind → Option Kind → Type 0
+TellsPiece kept kind piece =
+    (before : List Kind) → Describes kept before → piece ≡ kind_behind before kind

@@ -3,7 +3,7 @@ ghost use Rattle.std.specs.Prelude.{◌≡◌, ◌+◌, ◌-◌, ◌<◌, ◌^�
 ghost use Rattle.hilti_kinds.specs.declared.kind.Kind.{Kind};
 ghost use Rattle.hilti_kinds.specs.Kinds.{is};
 ghost use Rattle.hilti_pieces.specs.Pieces as pieces;
-ghost use Rattle.hilti_pieces.specs.Surroundings.{Describes, HasRoom};
+ghost use Rattle.hilti_pieces.specs.Surroundings.{Describes, HasRoom, TellsPiece};
 
 use hilti_kinds::Kind;
 
@@ -84,7 +84,7 @@ impl Surroundings {
 
     /// The kind of the piece that a token of this kind is; `None` for a line end that is none.
     pub fn piece_kind(self, kind: Kind) -> Option<Kind>
-        ensures { (before : List Kind) → Describes self before → result ≡ pieces.kind_behind before kind }
+        ensures { TellsPiece self kind result }
     {
         if Kind::LineEnd.is(kind) {
             let is_within = self.parens.depth() > 0 || self.in_shape;

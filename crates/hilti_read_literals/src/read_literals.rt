@@ -1,12 +1,12 @@
 //! Readers of literals.
 ghost use Rattle.std.specs.Prelude.{◌≡◌, ◌<◌, ◌≤◌, length, IfOk, OnOk, IsTrue, Some};
 ghost use Rattle.hilti_grammar.specs.Grammar.{Symbol.Rule, has};
-ghost use Rattle.hilti_reader.specs.Modules.{RuleName.LiteralText as a_literal, grammar, maybe, plain_literals, time_words, one_of, seconds as the_seconds};
+ghost use Rattle.hilti_reader.specs.Modules.{RuleName.LiteralText as a_literal, grammar, maybe, plain_literals, time_words, one_of, seconds as the_seconds, second_kinds};
 ghost use Rattle.hilti_reader.specs.Readers.{ReadsTree};
 ghost use Rattle.hilti_reader.specs.Spelled.{keyword_tree};
 ghost use Rattle.hilti_read_literals.specs.Literals.{literal_tree, literal_spot, seconds_tree, time_part, in_parens_tree, time_tree, word_part, maybe_seconds};
 ghost use Rattle.hilti_module.specs.declared.module.Simple.TheVariants as simples;
-ghost use Rattle.hilti_read_literals.specs.Literals.{values, truths, second_kinds, is_one_token};
+ghost use Rattle.hilti_read_literals.specs.Literals.{values, truths, is_one_token};
 
 use hilti_kinds::Kind;
 use hilti_lexer::{Token, TokenKind};

@@ -8,10 +8,10 @@ use Rattle.hilti_module.specs.declared.module.Literal.{Literal}
 use Rattle.hilti_module.specs.declared.module.Literal.TheVariants as literals
 use Rattle.hilti_module.specs.declared.module.Simple.TheVariants as simples
 use Rattle.hilti_kinds.specs.Kinds.{keyword_kinds}
-use Rattle.hilti_reader.specs.Modules.{any_words}
+use Rattle.hilti_reader.specs.Modules.{any_words, second_kinds}
 use Rattle.hilti_reader.specs.Readers.{IsAmong}
 use Rattle.hilti_read_literals.specs.Literals.{literal_tree, literal_spot}
-use Rattle.hilti_read_literals.specs.Literals.{values, second_kinds, is_one_token}
+use Rattle.hilti_read_literals.specs.Literals.{values, is_one_token}
 use Rattle.hilti_reader.proofs.Payloads.{no_mark, neither, look_up_none}
 use Rattle.hilti_read_operands.specs.Operands.{IsOneToken}
 

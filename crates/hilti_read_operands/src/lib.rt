@@ -1,7 +1,7 @@
 //! Reads operands.
 #![tactic(auto)]
 
-mod read_operands;
+mod operand_list;
 mod read_simple;
 
-pub use read_operands::read_operands;
+pub use operand_list::read_operands;

@@ -1,15 +1,10 @@
 -- Lemmas for the readers of types.
-use Rattle.std.proofs.Common.{arith, ◌<◌, ◌≡◌, ℕ, Bool, true, false, List, [], ◌∷◌, ◌++◌, refl, sym, ◌∙◌, ap, subst}
-use Rattle.std.specs.Prelude.{map}
+use Rattle.std.proofs.Common.{arith, ◌<◌, ◌≡◌, ℕ, Bool, List, [], ◌∷◌, ◌++◌, refl, sym, ◌∙◌, ap, subst}
 use Rattle.hilti_base.specs.declared.names.Place.{Place}
 use Rattle.hilti_grammar.specs.Grammar.{Symbol.Rule, Tree.Nothing, Tree.Pair, Tree.Left, Tree.Right, sees}
 use Rattle.hilti_grammar.specs.Predictive.{known}
-use Rattle.hilti_grammar.specs.Reads.{separated, Gathers}
-use Rattle.hilti_grammar.specs.Runs.{Outcome.Done, Outcome.Failed, Runs.NextFails, Runs.FirstFails}
-use Rattle.hilti_grammar.proofs.Loops.{gathers_begin, gathers_next, gathers_fails, gathers_ends}
 use Rattle.hilti_kinds.specs.declared.kind.Kind.TheVariants as kinds
 use Rattle.hilti_kinds.specs.declared.piece.Piece.{Piece}
-use Rattle.hilti_reader.specs.declared.stop.Stop.{Stop}
 use Rattle.hilti_module.specs.declared.types.TypeText.{TypeText}
 use Rattle.hilti_module.specs.declared.types.TypeText.TheVariants as types
 use Rattle.hilti_module.specs.declared.types.Parametric.{Parametric}
@@ -27,11 +22,8 @@ use Rattle.hilti_module.specs.declared.types.Single.{Single}
 use Rattle.hilti_module.specs.declared.types.Double.{Double}
 use Rattle.hilti_reader.specs.Spelled.{keyword_at, plain_kind, inner_kind, single_kind, double_kind, between_marks, number_tree, name_tree}
 use Rattle.std.proofs.Common.{rules}
-use Rattle.hilti_reader.specs.Modules.{RuleName.TypeText as a_type, RuleName.Parametric as a_parametric, RuleName.Container as a_container, grammar, told_rules, comma}
-use Rattle.hilti_reader.specs.Readers.{stops_of}
+use Rattle.hilti_reader.specs.Modules.{RuleName.Parametric as a_parametric, RuleName.Container as a_container, grammar, told_rules}
 use Rattle.hilti_read_types.specs.Trees.{type_tree, types_tree, parametric_tree, inner_tree, container_tree}
-use Rattle.hilti_read_types.specs.Loops.{GathersTypes}
-use Rattle.hilti_reader.proofs.Exits.{Goes}
 
 first_parametric : (told_rules a_parametric).first ≡ kinds.Ref ∷ kinds.Iterator ∷ kinds.Tuple ∷ kinds.Int ∷ []
 unfolding told_rules
@@ -47,38 +39,6 @@ sees_parametric pieces b h = subst (λ set. sees grammar set pieces ≡ b) (sym 
 
 pub sees_container : (pieces : List Piece) (b : Bool) → sees grammar (kinds.Map ∷ kinds.Classifier ∷ kinds.List ∷ kinds.Vector ∷ kinds.Set ∷ []) pieces ≡ b → sees grammar (known grammar told_rules (Rule a_container)).first pieces ≡ b
 sees_container pieces b h = subst (λ set. sees grammar set pieces ≡ b) (sym first_container) h
-
-map_last : (xs : List TypeText) (y : TypeText) → map type_tree (xs ++ y ∷ []) ≡ map type_tree xs ++ type_tree y ∷ []
-map_last [] y = refl
-map_last (x ∷ xs) y = ap (λ l. type_tree x ∷ l) (map_last xs y)
-
--- the loop over types with commas between them
-pub types_begin : (before now : List Piece) (parts : List TypeText) (first : TypeText) → parts ≡ [] ++ first ∷ [] → Goes (Rule a_type) before (Done (type_tree first) now) → GathersTypes before parts now
-types_begin before now parts first e d = subst (λ l. GathersTypes before l now) (sym e) (gathers_begin grammar told_rules stops_of (Rule a_type) comma before now (type_tree first) d)
-
-pub types_next : (before now middle after : List Piece) (parts more : List TypeText) (next : TypeText) → more ≡ parts ++ next ∷ [] → GathersTypes before parts now →
-    sees grammar (kinds.Comma ∷ []) now ≡ true → Goes comma now (Done Nothing middle) → Goes (Rule a_type) middle (Done (type_tree next) after) → GathersTypes before more after
-types_next before now middle after [] more next e so_far seen d f = absurd so_far
-types_next before now middle after (first ∷ others) more next e so_far seen d f =
-    subst (λ l. GathersTypes before l after) (sym e)
-    (subst (λ l. Gathers grammar told_rules stops_of (Rule a_type) comma before (type_tree first) l after) (sym (map_last others next))
-    (gathers_next grammar told_rules stops_of (Rule a_type) comma before now middle after (type_tree first) (map type_tree others) (type_tree next) so_far seen d f))
-
-pub types_fail : (before now middle rest : List Piece) (parts : List TypeText) (e : Stop) → GathersTypes before parts now →
-    sees grammar (kinds.Comma ∷ []) now ≡ true → Goes comma now (Done Nothing middle) → Goes (Rule a_type) middle (Failed e rest) → Goes (separated (Rule a_type) comma) before (Failed e rest)
-types_fail before now middle rest [] e so_far seen d f = absurd so_far
-types_fail before now middle rest (first ∷ others) e so_far seen d f =
-    gathers_fails grammar told_rules stops_of (Rule a_type) comma before now middle rest (type_tree first) (map type_tree others) e so_far seen d f
-
-pub types_stop : (before now rest : List Piece) (parts : List TypeText) (e : Stop) → GathersTypes before parts now →
-    sees grammar (kinds.Comma ∷ []) now ≡ true → Goes comma now (Failed e rest) → Goes (separated (Rule a_type) comma) before (Failed e rest)
-types_stop before now rest [] e so_far seen d = absurd so_far
-types_stop before now rest (first ∷ others) e so_far seen d = so_far (Failed e rest) (NextFails seen (FirstFails d))
-
-pub types_end : (before now : List Piece) (parts : List TypeText) → GathersTypes before parts now → sees grammar (kinds.Comma ∷ []) now ≡ false →
-    Goes (separated (Rule a_type) comma) before (Done (types_tree parts) now)
-types_end before now [] so_far unseen = absurd so_far
-types_end before now (first ∷ others) so_far unseen = gathers_ends grammar told_rules stops_of (Rule a_type) comma before now (type_tree first) (map type_tree others) so_far unseen
 
 -- the trees of types by their variants
 pub plain_is : (place : Place) (plain : PlainType) → type_tree (types.Plain place plain) ≡ Left (keyword_at place (plain_kind plain))

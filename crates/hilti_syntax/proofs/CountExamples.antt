@@ -24,7 +24,7 @@ module _ (place : Place) (word : Word) (name : Name) (type : TypeText) (simple :
 
   -- a label with a handler: two
   a_label : Line
-  a_label = lines.Label place word (record { exception = name; target = word; slot = word } ∷ [])
+  a_label = lines.Label place word (record { place = place; exception = name; target = word; slot = word } ∷ [])
 
   -- an instruction with an operand and a group of two: five
   an_instruction : Line

@@ -2,6 +2,7 @@
 ghost use Rattle.std.specs.Prelude.{◌≤◌, length};
 
 use hilti_base::Refusal;
+use hilti_module::Item;
 use super::*;
 use std::alloc::Global;
 use std::test::Fail;

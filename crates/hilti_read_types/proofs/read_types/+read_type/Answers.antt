@@ -2,7 +2,11 @@ use Rattle.std.proofs.Common.{◌∙◌, sym, ap, List, [], ◌∷◌, ◌++◌}
 use Rattle.hilti_module.specs.declared.types.TypeText.{TypeText}
 use Rattle.hilti_grammar.specs.Runs.{Runs.FirstFails, Runs.Then, Runs.Follows, Runs.ToLeft, Runs.ToRight}
 use Rattle.hilti_reader.proofs.Exits.{exits, gives_up, gives}
-use Rattle.hilti_read_types.proofs.ReadingTypes.{sees_parametric, sees_container, plain_is, parametric_is, named_is, int_is, tuple_is, iterator_is, ref_is, word_is, container_is, declared_is, single_boxed, double_boxed, types_begin, types_next, types_fail, types_stop, types_end, shrinks}
+use Rattle.hilti_read_types.proofs.ReadingTypes.{sees_parametric, sees_container, plain_is, parametric_is, named_is, int_is, tuple_is, iterator_is, ref_is, word_is, container_is, declared_is, single_boxed, double_boxed, shrinks}
+use Rattle.hilti_grammar.specs.Grammar.{Symbol.Rule}
+use Rattle.hilti_reader.specs.Modules.{RuleName.TypeText as a_type}
+use Rattle.hilti_reader.proofs.Gathering.{all_begin, all_next, all_fail, all_stop, all_end}
+use Rattle.hilti_read_types.specs.Trees.{type_tree}
 use Rattle.hilti_read_types.proofs.read_types.+read_type.Goals as goal
 
 pub read_type-returns-in_err-place-clause-reads : goal.read_type-returns-in_err-place-clause-reads
@@ -203,19 +207,19 @@ read_types-returns-in_err-push-clause-reads t c =
 
 pub read_types-parts-init : goal.read_types-parts-init
 read_types-parts-init t c = (
-  types_begin _ _ _ c.in_ok-first.first (c.in_ok-push.ensures.ok ∙ ap (λ (l : List TypeText). l ++ c.in_ok-first.first ∷ []) c.new-parts.ensures) c.in_ok-first.ensures.reads,
+  all_begin (Rule a_type) type_tree _ _ _ c.in_ok-first.first (c.in_ok-push.ensures.ok ∙ ap (λ (l : List TypeText). l ++ c.in_ok-first.first ∷ []) c.new-parts.ensures) c.in_ok-first.ensures.reads,
   c.in_ok-first.ensures.shorter,
 )
 
 pub read_types-returns-in_err-skip-clause-reads : goal.read_types-returns-in_err-skip-clause-reads
 read_types-returns-in_err-skip-clause-reads t c =
     exits _ _ _ _ c.from_residual-in_err-skip.result c.in_err-skip.field-0.0 c.from_residual-in_err-skip.ensures.1
-    (types_stop _ _ _ c.parts.parts _ c.parts.invariant.0 (sym c.sees.ensures ∙ c.parts-test.true) c.in_err-skip.ensures.reads)
+    (all_stop (Rule a_type) type_tree _ _ _ c.parts.parts _ c.parts.invariant.0 (sym c.sees.ensures ∙ c.parts-test.true) c.in_err-skip.ensures.reads)
 
 pub read_types-returns-in_err-next-clause-reads : goal.read_types-returns-in_err-next-clause-reads
 read_types-returns-in_err-next-clause-reads t c =
     exits _ _ _ _ c.from_residual-in_err-next.result c.in_err-next.field-0.0 c.from_residual-in_err-next.ensures.1
-    (types_fail _ _ _ _ c.parts.parts _ c.parts.invariant.0 (sym c.sees.ensures ∙ c.parts-test.true) c.in_ok-skip.ensures.reads c.in_err-next.ensures.reads)
+    (all_fail (Rule a_type) type_tree _ _ _ _ c.parts.parts _ c.parts.invariant.0 (sym c.sees.ensures ∙ c.parts-test.true) c.in_ok-skip.ensures.reads c.in_err-next.ensures.reads)
 
 pub read_types-returns-in_err-push-2-clause-reads : goal.read_types-returns-in_err-push-2-clause-reads
 read_types-returns-in_err-push-2-clause-reads t c =
@@ -223,9 +227,9 @@ read_types-returns-in_err-push-2-clause-reads t c =
 
 pub read_types-parts-preserved : goal.read_types-parts-preserved
 read_types-parts-preserved t c = (
-  types_next _ _ _ _ c.parts.parts _ c.in_ok-next.next c.in_ok-push-2.ensures.ok c.parts.invariant.0 (sym c.sees.ensures ∙ c.parts-test.true) c.in_ok-skip.ensures.reads c.in_ok-next.ensures.reads,
+  all_next (Rule a_type) type_tree _ _ _ _ c.parts.parts _ c.in_ok-next.next c.in_ok-push-2.ensures.ok c.parts.invariant.0 (sym c.sees.ensures ∙ c.parts-test.true) c.in_ok-skip.ensures.reads c.in_ok-next.ensures.reads,
   shrinks _ _ _ _ c.parts.invariant.1 c.in_ok-skip.ensures.shorter c.in_ok-next.ensures.shorter,
 )
 
 pub read_types-returns-clause-reads : goal.read_types-returns-clause-reads
-read_types-returns-clause-reads t c = types_end _ _ c.parts.parts c.parts.invariant.0 (sym c.sees.ensures ∙ c.parts-test.false)
+read_types-returns-clause-reads t c = all_end (Rule a_type) type_tree _ _ c.parts.parts c.parts.invariant.0 (sym c.sees.ensures ∙ c.parts-test.false)

@@ -1,5 +1,8 @@
 use Rattle.std.proofs.Common.{◌<◌, length, ◌+◌, ◌*◌}
-use Rattle.hilti_read_types.specs.Loops.{GathersTypes}
+use Rattle.hilti_grammar.specs.Grammar.{Symbol.Rule}
+use Rattle.hilti_reader.specs.Loops.{GathersAll}
+use Rattle.hilti_reader.specs.Modules.{RuleName.TypeText as a_type}
+use Rattle.hilti_read_types.specs.Trees.{type_tree}
 use Rattle.hilti_read_types.proofs.read_types.+read_type.Given as goal
 
 abbrev pub decreases-read_container : goal.decreases-read_container
@@ -18,7 +21,7 @@ abbrev pub decreases-read_types : goal.decreases-read_types
 decreases-read_types l = 4 * length l.cursor.now + 3
 
 abbrev pub invariant-read_types-parts : goal.invariant-read_types-parts
-invariant-read_types-parts l = GathersTypes l.fn.cursor l.parts l.cursor × (length l.cursor < length l.fn.cursor)
+invariant-read_types-parts l = GathersAll (Rule a_type) type_tree l.fn.cursor l.parts l.cursor × (length l.cursor < length l.fn.cursor)
 
 abbrev pub decreases-read_types-parts : goal.decreases-read_types-parts
 decreases-read_types-parts l = length l.cursor

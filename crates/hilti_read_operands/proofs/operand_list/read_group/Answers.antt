@@ -4,7 +4,7 @@ use Rattle.hilti_reader.proofs.Exits.{exits, gives}
 use Rattle.hilti_read_operands.proofs.Operands.{group_some}
 use Rattle.std.proofs.Common.{ap}
 use Rattle.hilti_read_operands.specs.Operands.{group_tree}
-use Rattle.hilti_read_operands.proofs.read_operands.read_group.Goals as goal
+use Rattle.hilti_read_operands.proofs.operand_list.read_group.Goals as goal
 
 pub returns-in_err-place-clause-reads : goal.returns-in_err-place-clause-reads
 returns-in_err-place-clause-reads c = exits _ _ _ _ c.from_residual.result c.in_err-place.field-0.0 c.from_residual.ensures.1 (Follows (FirstFails c.in_err-place.ensures.reads))

@@ -1,6 +1,6 @@
 use Rattle.hilti_grammar.specs.Runs.{Runs.FirstFails, Runs.Then, Runs.Follows}
 use Rattle.hilti_reader.proofs.Exits.{exits}
-use Rattle.hilti_read_shapes.proofs.read_arguments.read_arguments.Goals as goal
+use Rattle.hilti_read_shapes.proofs.arguments.read_arguments.Goals as goal
 
 pub returns-in_err-skip-clause-reads : goal.returns-in_err-skip-clause-reads
 returns-in_err-skip-clause-reads c =

@@ -2,7 +2,7 @@ use Rattle.std.proofs.Common.{◌∙◌, sym}
 use Rattle.hilti_reader.proofs.Exits.{exits, gives_up}
 use Rattle.hilti_read_operands.proofs.Operands.{collects_begin, collects_next, collects_fail, collects_end, shrinks_more}
 use Rattle.std.proofs.Common.{arith}
-use Rattle.hilti_read_operands.proofs.read_operands.read_operands.Goals as goal
+use Rattle.hilti_read_operands.proofs.operand_list.read_operands.Goals as goal
 
 pub operands-init : goal.operands-init
 operands-init c = (collects_begin _ _ c.new-operands.ensures, omega arith)

@@ -8,7 +8,7 @@ use Rattle.hilti_reader.proofs.Exits.{exits, gives_up}
 use Rattle.hilti_reader.proofs.Gathering.{all_begin, all_next, all_fail, all_stop, all_end}
 use Rattle.hilti_read_types.proofs.ReadingTypes.{shrinks}
 use Rattle.hilti_read_operands.proofs.Operands.{gathers_some}
-use Rattle.hilti_read_operands.proofs.read_operands.read_simples.Goals as goal
+use Rattle.hilti_read_operands.proofs.operand_list.read_simples.Goals as goal
 
 pub returns-in_err-first-clause-reads : goal.returns-in_err-first-clause-reads
 returns-in_err-first-clause-reads c = exits _ _ _ _ c.from_residual.result c.in_err-first.field-0.0 c.from_residual.ensures.1 (FirstFails c.in_err-first.ensures.reads)

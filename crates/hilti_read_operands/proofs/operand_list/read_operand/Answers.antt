@@ -1,7 +1,7 @@
 use Rattle.std.proofs.Common.{◌∙◌, sym}
 use Rattle.hilti_grammar.specs.Runs.{Runs.FirstFails, Runs.Then, Runs.Follows, Runs.ToLeft, Runs.ToRight}
 use Rattle.hilti_read_operands.proofs.Operands.{steps_exit, group_step, other_step, alone_step, number_step, sees_paren, sees_others, another_begins}
-use Rattle.hilti_read_operands.proofs.read_operands.read_operand.Goals as goal
+use Rattle.hilti_read_operands.proofs.operand_list.read_operand.Goals as goal
 
 pub returns-in_err-place-clause-reads : goal.returns-in_err-place-clause-reads
 returns-in_err-place-clause-reads c = steps_exit _ _ c.from_residual.result c.in_err-place.field-0.0 c.from_residual.ensures.1 (Follows (ToLeft (sees_paren _ _ (sym c.sees.ensures ∙ c.if-sees.true)) (FirstFails c.in_err-place.ensures.reads)))
