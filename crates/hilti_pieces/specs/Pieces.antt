@@ -89,5 +89,5 @@ EachByItself =
     (tokens : List Token) (end_place : Place) (front : List Token) (token : Token)
     (back : List Token) → tokens ++ end_token end_place ∷ [] ≡ front ++ token ∷ back →
     pieces_of tokens end_place ≡ pieces_behind [] front
-        ++ (piece_behind (kinds_behind front) token
-        ++ pieces_behind (kind_of token.kind ∷ kinds_behind front) back)
+    ++ (piece_behind (kinds_behind front) token
+    ++ pieces_behind (kind_of token.kind ∷ kinds_behind front) back)

@@ -156,7 +156,7 @@ is_group (operands.Group place items) = true
 abbrev pub Steps : List Piece → Result Operand Stop → List Piece → Type 0
 Steps before (Ok operand) after =
     ((out : Outcome Stop Token Piece) → OperandsGo after out →
-        OperandsGo before (changed (operand_front operand) out))
+    OperandsGo before (changed (operand_front operand) out))
     × (is_time_alone operand ≡ true → sees grammar (kinds.OpenParen ∷ []) after ≡ false)
     × (is_group operand ≡ true → sees grammar (kinds.OpenParen ∷ []) before ≡ true)
 Steps before (Err stop) after = OperandsGo before (Failed stop after)
@@ -180,5 +180,5 @@ operands_front true (operands.Group place items ∷ more) rest = Nothing
 abbrev pub Collects : List Piece → List Operand → List Piece → Type 0
 Collects before found now =
     ((out : Outcome Stop Token Piece) → OperandsGo now out →
-        OperandsGo before (changed (operands_front false found) out))
+    OperandsGo before (changed (operands_front false found) out))
     × (ends_alone false found ≡ true → sees grammar (kinds.OpenParen ∷ []) now ≡ false)

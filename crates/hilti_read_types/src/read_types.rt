@@ -55,10 +55,7 @@ pub fn read_parametric(cursor: &mut Cursor) -> Result<Parametric, Stop>
         cursor.skip(Kind::Less)?;
         let bits = cursor.number()?;
         cursor.skip(Kind::Greater)?;
-        return Ok(Parametric::Int {
-            place: int,
-            bits,
-        });
+        return Ok(Parametric::Int { place: int, bits });
     }
     if cursor.sees(&[Kind::Tuple]) {
         let tuple = read_keyword(cursor, Kind::Tuple)?;

@@ -312,13 +312,32 @@ grammar = record {
   rules = all_rules;
   index = rule_index;
   listed =
-      elim
-      [ ModuleText ↦ refl | ItemText ↦ refl | HookRest ↦ refl | HookBody ↦ refl | Arguments ↦ refl |
-      Params ↦ refl | ShapeText ↦ refl | FieldText ↦ refl | FormText ↦ refl | BodyText ↦ refl |
-      LineText ↦ refl | AfterWord ↦ refl | InstructionText ↦ refl | Operands ↦ refl |
-      OperandsBehindTime ↦ refl | GroupText ↦ refl | SimpleText ↦ refl | OtherSimple ↦ refl |
-      TypeText ↦ refl | Parametric ↦ refl | Container ↦ refl | InnerText ↦ refl | NameText ↦ refl |
-      LiteralText ↦ refl ];
+      elim [
+        | ModuleText ↦ refl
+        | ItemText ↦ refl
+        | HookRest ↦ refl
+        | HookBody ↦ refl
+        | Arguments ↦ refl
+        | Params ↦ refl
+        | ShapeText ↦ refl
+        | FieldText ↦ refl
+        | FormText ↦ refl
+        | BodyText ↦ refl
+        | LineText ↦ refl
+        | AfterWord ↦ refl
+        | InstructionText ↦ refl
+        | Operands ↦ refl
+        | OperandsBehindTime ↦ refl
+        | GroupText ↦ refl
+        | SimpleText ↦ refl
+        | OtherSimple ↦ refl
+        | TypeText ↦ refl
+        | Parametric ↦ refl
+        | Container ↦ refl
+        | InnerText ↦ refl
+        | NameText ↦ refl
+        | LiteralText ↦ refl
+      ];
   rounds = 8;
 }
 

@@ -55,7 +55,7 @@ abbrev pub RefusedOnce : Type 0
 RefusedOnce =
     (tokens : List Token) (end_place : Place) (stop other : Stop) (place elsewhere : Place) →
     FirstRefused tokens end_place stop place → FirstRefused tokens end_place other elsewhere →
-        (stop ≡ other) × (place ≡ elsewhere)
+    (stop ≡ other) × (place ≡ elsewhere)
 
 -- what the outcome of reading the pieces of a text as a module says of its tokens
 abbrev pub Means : List Token → Place → Outcome Stop Token Piece → Type 0
@@ -71,4 +71,4 @@ Means tokens end_place (Failed stop left) =
 abbrev pub ReadsText : Type 0
 ReadsText = (tokens : List Token) (end_place : Place) (out : Outcome Stop Token Piece) →
     Runs grammar told_rules stops_of (Rule ModuleText) (pieces_of tokens end_place) out →
-        Means tokens end_place out
+    Means tokens end_place out

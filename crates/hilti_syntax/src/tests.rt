@@ -1,9 +1,9 @@
 // A whole module, and the first refusals of texts that are none.
 ghost use Rattle.std.specs.Prelude.{◌≤◌, length};
 
+use super::*;
 use hilti_base::Refusal;
 use hilti_module::Item;
-use super::*;
 use std::alloc::Global;
 use std::test::Fail;
 
