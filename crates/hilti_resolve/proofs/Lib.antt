@@ -1,5 +1,6 @@
 pub mod Firsts
 pub mod SameParts
+pub mod Seconds
 pub mod Says
 pub mod Together
 mod Widths

@@ -43,7 +43,7 @@ double_eq _ _ = false
 
 abbrev pub meaning_eq : Meaning → Meaning → Bool
 meaning_eq means.Nothing means.Nothing = true
-meaning_eq means.Local means.Local = true
+meaning_eq (means.Local slot) (means.Local other) = nat_eq slot other
 meaning_eq (means.Struct n) (means.Struct m) = nat_eq n m
 meaning_eq (means.Enum n) (means.Enum m) = nat_eq n m
 meaning_eq (means.Overlay n) (means.Overlay m) = nat_eq n m

@@ -133,7 +133,7 @@ fn check_seconds(fits: bool, place: Place, seconds: &Seconds) -> Option<Refusal>
 }
 
 /// The nanoseconds of a time or an interval.
-fn nanoseconds(seconds: &Seconds) -> u128
+pub fn nanoseconds(seconds: &Seconds) -> u128
     ensures { result ≡ literals.nanoseconds seconds.now }
 {
     match seconds {

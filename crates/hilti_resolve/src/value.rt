@@ -3,15 +3,15 @@ ghost use Rattle.std.specs.Prelude.{◌≡◌, Err, Ok, IfOk, map};
 ghost use Rattle.hilti_base.specs.declared.names.Place.{Place as APlace};
 ghost use Rattle.hilti_scope.specs.Scopes.{means};
 ghost use Rattle.hilti_resolve.specs.declared.fault.TypeFault.TheVariants.{Broken};
-ghost use Rattle.hilti_resolve.specs.Values.{all_of, value_of as value_told, parametric_value_of, inner_value_of, container_value_of, single_value as single_told, both_value as both_told};
+ghost use Rattle.hilti_resolve.specs.Values.{all_of, read_of, value_of as value_told, parametric_value_of, inner_value_of, container_value_of, single_value as single_told, object_of as object_told};
 
 use crate::fault::TypeFault;
 use crate::inner_value::InnerValue;
 use crate::rules::{
-    inner_word, int_value, is_tuple, iterator_value, named_inner, named_value, plain_value,
-    reference_value, tuple_value,
+    inner_word, int_value, is_tuple_length, is_walked, iterator_value, named_inner, named_value,
+    plain_value, reference_value, takes,
 };
-use hilti_base::Place;
+use hilti_base::{NoMemory, Place};
 use hilti_scope::Scope;
 use hilti_module::{Container, Double, InnerText, Parametric, Single, TypeText, TypeTexts};
 use hilti_types::{Inner, TypeTable, ValueType, ValueTypes, is_key};
@@ -52,10 +52,16 @@ pub fn parametric_value(
     match parametric {
         Parametric::Int { place, bits } => Ok(int_value(*place, bits.value)?),
         Parametric::Tuple { place, parts } => {
-            let values = part_values(alloc, scope, table, parts)?;
-            Ok(tuple_value(*place, values)?)
+            if !is_tuple_length(parts.len()) {
+                return Err(TypeFault::Broken { place: *place });
+            }
+            let parts = part_values(alloc, scope, table, parts)?;
+            Ok(ValueType::Tuple { parts })
         }
         Parametric::Iterator { place, over } => {
+            if !is_walked(over) {
+                return Err(TypeFault::Broken { place: *place });
+            }
             let container = inner_value(alloc, scope, table, over)?;
             Ok(iterator_value(*place, container)?)
         }
@@ -74,8 +80,8 @@ fn part_values(
     table: &TypeTable,
     parts: &TypeTexts,
 ) -> Result<ValueTypes, TypeFault>
-    ensures kinds { IfOk result (λ kinds. all_of (map (value_told table.now (means scope.now)) parts.now) ≡ Ok kinds) }
-    ensures broken { (place : APlace) → result ≡ Err (Broken place) → all_of (map (value_told table.now (means scope.now)) parts.now) ≡ Err place }
+    ensures kinds { IfOk result (λ kinds. all_of (map (read_of table.now (means scope.now)) parts.now) ≡ Ok kinds) }
+    ensures broken { (place : APlace) → result ≡ Err (Broken place) → all_of (map (read_of table.now (means scope.now)) parts.now) ≡ Err place }
 {
     let mut values = ValueTypes::new(alloc);
     for part in parts.as_slice() {
@@ -102,7 +108,7 @@ fn inner_value(
             let object = container_value(alloc, scope, table, container)?;
             Ok(InnerValue::Object(object))
         }
-        InnerText::Declared(name) => Ok(named_inner(scope.meaning(name), name.first.place)?),
+        InnerText::Declared(name) => Ok(named_inner(scope.meaning(name))),
     }
 }
 
@@ -132,9 +138,15 @@ pub fn container_value(
             first,
             second,
         } => {
+            if !takes(*double, first.get()) {
+                return Err(TypeFault::Broken { place: *place });
+            }
             let first_kind = value_of(alloc, scope, table, first.get())?;
+            if !is_key(table, &first_kind) {
+                return Err(TypeFault::Broken { place: *place });
+            }
             let second_kind = value_of(alloc, scope, table, second.get())?;
-            Ok(both_value(alloc, table, *place, *double, first_kind, second_kind)?)
+            Ok(object_of(alloc, *double, first_kind, second_kind)?)
         }
     }
 }
@@ -169,34 +181,25 @@ fn single_value(
     }
 }
 
-/// A container of two types; the keys of a map are of a key type, and a rule of a classifier is a tuple of key types.
-fn both_value(
+/// The type of a map or a classifier.
+fn object_of(
     alloc: Global,
-    table: &TypeTable,
-    place: Place,
     double: Double,
     first: ValueType,
     second: ValueType,
-) -> Result<Inner, TypeFault>
-    ensures object { IfOk result (λ object. both_told table.now place double first second ≡ Ok object) }
-    ensures broken { (at : APlace) → result ≡ Err (Broken at) → both_told table.now place double first second ≡ Err at }
+) -> Result<Inner, NoMemory>
+    ensures { IfOk result (λ object. object ≡ object_told double first second) }
 {
-    if !is_key(table, &first) {
-        return Err(TypeFault::Broken { place });
-    }
-    match double {
-        Double::Map => {
-            let key = Boxed::new(alloc, first)?;
-            let value = Boxed::new(alloc, second)?;
-            Ok(Inner::Map { key, value })
-        }
-        Double::Classifier => {
-            if !is_tuple(&first) {
-                return Err(TypeFault::Broken { place });
-            }
-            let rule = Boxed::new(alloc, first)?;
-            let value = Boxed::new(alloc, second)?;
-            Ok(Inner::Classifier { rule, value })
-        }
-    }
+    let first = Boxed::new(alloc, first)?;
+    let second = Boxed::new(alloc, second)?;
+    Ok(match double {
+        Double::Map => Inner::Map {
+            key: first,
+            value: second,
+        },
+        Double::Classifier => Inner::Classifier {
+            rule: first,
+            value: second,
+        },
+    })
 }

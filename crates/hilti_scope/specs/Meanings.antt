@@ -71,9 +71,18 @@ exception_or_nothing (Some n) = means.Exception n
 abbrev pub built_in : List ℕ → Meaning
 built_in bytes = exception_or_nothing (position (λ word. bytes_eq word bytes) built_in_names)
 
+-- the number of the parameter or local of a name: that of the first that has it
+abbrev pub slot_of : List (List ℕ) → List ℕ → Option ℕ
+slot_of locals bytes = position (λ word. bytes_eq word bytes) locals
+
+abbrev pub local_or : Option ℕ → Meaning → Meaning
+local_or None other = other
+local_or (Some slot) other = means.Local slot
+
 -- a name without `::` is a local, or a declaration of its own module, or a built-in exception
 abbrev pub plain_meaning : List Module → ℕ → ℕ → List (List ℕ) → List ℕ → Meaning
-plain_meaning modules file here locals bytes = cond (is_among locals bytes) means.Local (unwrap_or (declared_in modules here file bytes) (built_in bytes))
+plain_meaning modules file here locals bytes =
+    local_or (slot_of locals bytes) (unwrap_or (declared_in modules here file bytes) (built_in bytes))
 
 abbrev pub meaning_in_module : List Module → ℕ → Option ℕ → List ℕ → Meaning
 meaning_in_module modules here None bytes = means.Nothing
