@@ -1,4 +1,5 @@
 pub mod Firsts
+pub mod FormsRead
 pub mod SameParts
 pub mod Seconds
 pub mod Says

@@ -11,6 +11,7 @@ use Rattle.hilti_module.specs.declared.types.Container.{Container, out-Container
 use Rattle.hilti_module.specs.declared.types.Container.TheOpen.{Container-F}
 use Rattle.hilti_types.specs.declared.declared.Declared.{Declared}
 use Rattle.hilti_types.specs.declared.value_type.Inner.{Inner}
+use Rattle.hilti_types.specs.Depths.{depths}
 use Rattle.hilti_scope.specs.declared.meaning.Meaning.{Meaning}
 use Rattle.hilti_resolve.specs.Names.{first_unknown_container}
 use Rattle.hilti_resolve.specs.Depth.{written_container_depth}
@@ -32,12 +33,12 @@ abbrev pub unknown_or_no_object : Place → Option Place → Result Inner Place 
 unknown_or_no_object start (Some unknown) value = Some (At unknown 21)
 unknown_or_no_object start None value = no_object start value
 
--- Where it nests too deep it is refused at its first token with code 30, else at its first name that means nothing with
--- code 21, else, where it breaks the rules of types, at its first token with code 30.
-abbrev pub container_refusal :
-    List Declared → List ℕ → (Name → Meaning) → Container → Option Refusal
-container_refusal table depths mean container =
+-- Where it nests too deep it is refused at its first token with code 30, else at its first name
+-- that means nothing with code 21, else, where it breaks the rules of types, at its first token
+-- with code 30.
+abbrev pub container_refusal : List Declared → (Name → Meaning) → Container → Option Refusal
+container_refusal table mean container =
     let start = container_start container in
     let value = container_value_of table mean container in
-    cond (nat_lt 16 (written_container_depth depths mean container)) (Some (At start 30))
+    cond (nat_lt 16 (written_container_depth (depths table) mean container)) (Some (At start 30))
     (unknown_or_no_object start (first_unknown_container mean container) value)

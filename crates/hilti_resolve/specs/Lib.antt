@@ -8,3 +8,4 @@ pub mod Literals
 pub mod Same
 pub mod LiteralValues
 pub mod Containers
+pub mod Answering

@@ -10,7 +10,9 @@ use Rattle.hilti_module.specs.declared.types.Double.{Double}
 use Rattle.hilti_module.specs.declared.types.Double.TheVariants as doubles
 use Rattle.hilti_scope.specs.declared.meaning.Meaning.{Meaning}
 use Rattle.hilti_scope.specs.declared.meaning.Meaning.TheVariants as means
-use Rattle.hilti_resolve.specs.Written.{Written, Written.Plain, Written.Int, Written.Tuple, Written.NoPart, Written.Part, Written.Iterator, Written.Ref, Written.InnerWord, Written.One, Written.Two, Written.Named}
+use Rattle.hilti_resolve.specs.Written.{Written, Written.Plain, Written.Int, Written.Tuple}
+use Rattle.hilti_resolve.specs.Written.{Written.NoPart, Written.Part, Written.Iterator, Written.Ref}
+use Rattle.hilti_resolve.specs.Written.{Written.InnerWord, Written.One, Written.Two, Written.Named}
 
 abbrev pub plain_eq : PlainType → PlainType → Bool
 plain_eq plain.Bool plain.Bool = true

@@ -1,7 +1,9 @@
--- The type that a written type stands for, or the place of the first part of it that breaks the rules of types: an outer one
--- stands in front of those inside it. Where the rule of a part asks of an inner one what only a type has, as a set asks
--- whether its elements are keys, and that is no type, nothing but the inner one's own fault counts.
-use Rattle.std.specs.Prelude.{◌≡◌, ℕ, ◌==◌, ◌||◌, ◌&&◌, nat_le, Bool, true, false, cond, List, [], ◌∷◌, length, Result, Ok, Err}
+-- The type that a written type stands for, or the place of the first part of it that breaks the
+-- rules of types: an outer one stands in front of those inside it. Where the rule of a part asks of
+-- an inner one what only a type has, as a set asks whether its elements are keys, and that is no
+-- type, nothing but the inner one's own fault counts.
+use Rattle.std.specs.Prelude.{◌≡◌, ℕ, ◌==◌, ◌||◌, ◌&&◌, nat_le, Bool, true, false, cond, List, []}
+use Rattle.std.specs.Prelude.{◌∷◌, length, Result, Ok, Err}
 use Rattle.hilti_base.specs.declared.names.Place.{Place}
 use Rattle.hilti_module.specs.declared.types.Name.{Name}
 use Rattle.hilti_module.specs.declared.types.TypeText.{TypeText}
@@ -16,8 +18,10 @@ use Rattle.hilti_module.specs.declared.types.Single.{Single}
 use Rattle.hilti_module.specs.declared.types.Single.TheVariants as singles
 use Rattle.hilti_module.specs.declared.types.Double.{Double}
 use Rattle.hilti_module.specs.declared.types.Double.TheVariants as doubles
-use Rattle.hilti_module.specs.declared.types.Container.TheOpen.{Container-F, InnerText-F, Parametric-F, TypeText-F}
-use Rattle.hilti_module.specs.declared.types.Container.TheFolds.{fold-Container, fold-InnerText, fold-Parametric, fold-TypeText}
+use Rattle.hilti_module.specs.declared.types.Container.TheOpen.{Container-F, InnerText-F}
+use Rattle.hilti_module.specs.declared.types.Container.TheOpen.{Parametric-F, TypeText-F}
+use Rattle.hilti_module.specs.declared.types.Container.TheFolds.{fold-Container, fold-InnerText}
+use Rattle.hilti_module.specs.declared.types.Container.TheFolds.{fold-Parametric, fold-TypeText}
 use Rattle.hilti_types.specs.declared.declared.Declared.{Declared}
 use Rattle.hilti_types.specs.declared.value_type.ValueType.{ValueType}
 use Rattle.hilti_types.specs.declared.value_type.ValueType.TheVariants as types
@@ -27,7 +31,8 @@ use Rattle.hilti_types.specs.Keys.{key_over}
 use Rattle.hilti_scope.specs.declared.meaning.Meaning.{Meaning}
 use Rattle.hilti_scope.specs.declared.meaning.Meaning.TheVariants as means
 use Rattle.hilti_resolve.specs.declared.inner_value.InnerValue.{InnerValue}
-use Rattle.hilti_resolve.specs.declared.inner_value.InnerValue.TheVariants.{Object, BytesWord, NoObject}
+use Rattle.hilti_resolve.specs.declared.inner_value.InnerValue.TheVariants.{Object, BytesWord}
+use Rattle.hilti_resolve.specs.declared.inner_value.InnerValue.TheVariants.{NoObject}
 
 abbrev pub plain_value : PlainType → ValueType
 plain_value plain.Bool = types.Bool
@@ -61,9 +66,10 @@ is_width bits = bits == 8 || bits == 16 || bits == 32 || bits == 64
 abbrev pub int_value : Place → ℕ → Result ValueType Place
 int_value place bits = cond (is_width bits) (Ok (types.Int bits)) (Err place)
 
--- What something written stands for, or the place of its fault; and beside it whether it has the form that what stands
--- around it may ask for, which is known also where it has a fault: of a type, whether it is a tuple, and of what stands
--- between `<` and `>`, whether it is a list, vector, set or map.
+-- What something written stands for, or the place of its fault; and beside it whether it has the
+-- form that what stands around it may ask for, which is known also where it has a fault: of a type,
+-- whether it is a tuple, and of what stands between `<` and `>`, whether it is a list, vector, set
+-- or map.
 pub record Read (A : Type 0) : Type 0 where
   pub form : Bool
   pub stands : Result A Place
@@ -73,7 +79,8 @@ abbrev pub behind : ValueType → Result (List ValueType) Place → Result (List
 behind value (Err place) = Err place
 behind value (Ok values) = Ok (value ∷ values)
 
-abbrev pub in_front : Result ValueType Place → Result (List ValueType) Place → Result (List ValueType) Place
+abbrev pub in_front :
+    Result ValueType Place → Result (List ValueType) Place → Result (List ValueType) Place
 in_front (Err place) more = Err place
 in_front (Ok value) more = behind value more
 
@@ -109,7 +116,8 @@ reference_value place (Ok BytesWord) = Ok types.Bytes
 reference_value place (Ok NoObject) = Err place
 
 -- the elements of a set are of a key type
-abbrev pub single_value : List Declared → Place → Single → Result ValueType Place → Result Inner Place
+abbrev pub single_value :
+    List Declared → Place → Single → Result ValueType Place → Result Inner Place
 single_value table place single (Err inside) = Err inside
 single_value table place singles.List (Ok item) = Ok (objects.List item)
 single_value table place singles.Vector (Ok item) = Ok (objects.Vector item)
@@ -131,7 +139,8 @@ with_second double first (Ok second) = Ok (object_of double first second)
 
 -- the keys of a map and the rules of a classifier are of key types
 abbrev pub both_value :
-    List Declared → Place → Double → Result ValueType Place → Result ValueType Place → Result Inner Place
+    List Declared → Place → Double → Result ValueType Place → Result ValueType Place
+    → Result Inner Place
 both_value table place double (Err inside) second = Err inside
 both_value table place double (Ok first) second =
     cond (key_over table first) (with_second double first second) (Err place)
@@ -207,12 +216,13 @@ container_read_of table mean =
     fold-Container (Read Inner) (Read InnerValue) (Read ValueType) (Read ValueType)
     (container_reads table) (inner_reads mean) parametric_reads (type_reads mean)
 
--- the type that a written type stands for, or the place where it breaks the rules of types; `table` has the types that
--- are declared in front of it
+-- the type that a written type stands for, or the place where it breaks the rules of types; `table`
+-- has the types that are declared in front of it
 abbrev pub value_of : List Declared → (Name → Meaning) → TypeText → Result ValueType Place
 value_of table mean text = (read_of table mean text).stands
 
-abbrev pub parametric_value_of : List Declared → (Name → Meaning) → Parametric → Result ValueType Place
+abbrev pub parametric_value_of :
+    List Declared → (Name → Meaning) → Parametric → Result ValueType Place
 parametric_value_of table mean parametric = (parametric_read_of table mean parametric).stands
 
 abbrev pub inner_value_of : List Declared → (Name → Meaning) → InnerText → Result InnerValue Place
@@ -230,4 +240,5 @@ HasForm reads written form =
 -- whether a container may have a first type of this form
 abbrev pub MayTake : Double → TypeText → Bool → Type 0
 MayTake double first may =
-    (table : List Declared) (mean : Name → Meaning) → may ≡ takes double (read_of table mean first).form
+    (table : List Declared) (mean : Name → Meaning)
+    → may ≡ takes double (read_of table mean first).form

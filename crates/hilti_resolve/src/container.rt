@@ -1,8 +1,9 @@
 //! Containers that are made.
-ghost use Rattle.std.specs.Prelude.{◌≡◌, ℕ, Err, Ok, None, Some, IfOk};
-ghost use Rattle.hilti_base.specs.declared.names.Place.{Place as APlace};
+ghost use Rattle.std.specs.Prelude.{◌≡◌};
 ghost use Rattle.hilti_scope.specs.Scopes.{means};
-ghost use Rattle.hilti_resolve.specs.Containers.{container_refusal, container_start as start_place};
+ghost use Rattle.hilti_resolve.specs.Answering.{Accepts, Gives, RefusesAs};
+ghost use Rattle.hilti_resolve.specs.Containers.{container_refusal as refusal_of};
+ghost use Rattle.hilti_resolve.specs.Containers.{container_start as start_place};
 ghost use Rattle.hilti_resolve.specs.Values.{container_value_of};
 
 use crate::depth::{TOO_DEEP, container_depth};
@@ -28,15 +29,14 @@ pub fn read_container(
     alloc: Global,
     scope: &Scope<'_>,
     table: &TypeTable,
-    depths: &[u32],
     container: &Container,
 ) -> Result<Inner, Refusal>
-    ensures object { IfOk result (λ object. container_value_of table.now (means scope.now) container.now ≡ Ok object) }
-    ensures accepted { IfOk result (λ object. container_refusal table.now depths.now (means scope.now) container.now ≡ None) }
-    ensures refusal { (place : APlace) (code : ℕ) → result ≡ Err (Refusal.At place code) → container_refusal table.now depths.now (means scope.now) container.now ≡ Some (Refusal.At place code) }
+    ensures object { Gives result (container_value_of table.now (means scope.now) container.now) }
+    ensures accepted { Accepts result (refusal_of table.now (means scope.now) container.now) }
+    ensures refusal { RefusesAs result (refusal_of table.now (means scope.now) container.now) }
 {
     let start = start_of(container);
-    if container_depth(scope, depths, container) == TOO_DEEP {
+    if container_depth(scope, table, container) == TOO_DEEP {
         return Err(Refusal::At {
             place: start,
             code: BAD_KIND,

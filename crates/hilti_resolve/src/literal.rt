@@ -5,8 +5,8 @@ ghost use Rattle.hilti_scope.specs.Scopes.{means};
 ghost use Rattle.hilti_resolve.specs.Literals as literals;
 
 use hilti_base::{Names, Place, Refusal};
-use hilti_scope::{Meaning, Scope};
 use hilti_module::{Literal, Number, Seconds};
+use hilti_scope::{Meaning, Scope};
 use hilti_types::{Declared, TypeTable, ValueType};
 
 /// The code of a name that means nothing.

@@ -1,14 +1,14 @@
 //! The values of literals, and the types that they have by themselves.
-ghost use Rattle.std.specs.Prelude.{◌≡◌, ◌<◌, ◌^◌, ℕ, bytes_eq, None, Some, Err, IfOk};
+ghost use Rattle.std.specs.Prelude.{◌≡◌, ◌<◌, ◌^◌, bytes_eq, None};
 ghost use Rattle.std.specs.List.{position};
 ghost use Rattle.std.specs.Option.{unwrap_or};
-ghost use Rattle.hilti_base.specs.declared.names.Place.{Place as APlace};
 ghost use Rattle.hilti_scope.specs.Scopes.{means};
+ghost use Rattle.hilti_resolve.specs.Answering.{Accepts, Makes, RefusesAs};
 ghost use Rattle.hilti_resolve.specs.Literals.{literal_refusal, nanoseconds as nanoseconds_told};
 ghost use Rattle.hilti_resolve.specs.LiteralValues as values;
 
 use crate::literal::{check_literal, nanoseconds};
-use hilti_base::{Names, NoMemory, Refusal};
+use hilti_base::{Blob, Names, NoMemory, Refusal};
 use hilti_module::{Literal, Seconds};
 use hilti_scope::{Meaning, Scope};
 use hilti_tree::Tree;
@@ -21,9 +21,9 @@ pub fn read_literal(
     kind: &ValueType,
     literal: &Literal,
 ) -> Result<Tree, Refusal>
-    ensures value { IfOk result (λ value. value ≡ values.literal_value table.now (means scope.now) literal.now) }
-    ensures accepted { IfOk result (λ value. literal_refusal table.now (means scope.now) kind.now literal.now ≡ None) }
-    ensures refusal { (place : APlace) (code : ℕ) → result ≡ Err (Refusal.At place code) → literal_refusal table.now (means scope.now) kind.now literal.now ≡ Some (Refusal.At place code) }
+    ensures value { Makes result (values.literal_value table.now (means scope.now) literal.now) }
+    ensures accepted { Accepts result (literal_refusal table.now (means scope.now) kind.now literal.now) }
+    ensures refusal { RefusesAs result (literal_refusal table.now (means scope.now) kind.now literal.now) }
 {
     match check_literal(scope, table, kind, literal) {
         Some(refusal) => Err(refusal),
@@ -40,7 +40,7 @@ fn literal_value(
     literal: &Literal,
 ) -> Result<Tree, NoMemory>
     requires { literal_refusal table.now (means scope.now) kind.now literal.now ≡ None }
-    ensures { IfOk result (λ value. value ≡ values.literal_value table.now (means scope.now) literal.now) }
+    ensures { Makes result (values.literal_value table.now (means scope.now) literal.now) }
 {
     Ok(match literal {
         Literal::Number(number) => Tree::Int(number.value),
@@ -80,7 +80,7 @@ fn whole_nanoseconds(seconds: &Seconds) -> u64
 
 /// The place of a constant of the enum that a name means, and 0 where there is none.
 fn constant_place(table: &TypeTable, meaning: Meaning, constant: &[u8]) -> Result<u32, NoMemory>
-    ensures { IfOk result (λ at. at ≡ values.constant_place table.now meaning constant.now) }
+    ensures { Makes result (values.constant_place table.now meaning constant.now) }
 {
     match meaning {
         Meaning::Enum { n } => match table.get(n as usize) {
@@ -93,12 +93,30 @@ fn constant_place(table: &TypeTable, meaning: Meaning, constant: &[u8]) -> Resul
 
 /// The place of a word, and 0 where it isn't there. More than 2^32 words take more memory than there is.
 fn place_of(words: &Names, word: &[u8]) -> Result<u32, NoMemory>
-    ensures { IfOk result (λ at. at ≡ unwrap_or (position (λ other. bytes_eq other word.now) words.now) 0) }
+    ensures { Makes result (unwrap_or (position (λ other. bytes_eq other word.now) words.now) 0) }
 {
-    match words.as_slice().iter().position(|other| other.bytes() == word) {
-        Some(at) => u32::try_from(at).map_err(|_| NoMemory),
+    match place(words.as_slice(), word) {
+        Some(at) => whole_place(at),
         None => Ok(0),
     }
+}
+
+/// A place as it is held.
+fn whole_place(at: usize) -> Result<u32, NoMemory>
+    ensures { Makes result at }
+{
+    if at <= u32::MAX as usize {
+        Ok(at as u32)
+    } else {
+        Err(NoMemory)
+    }
+}
+
+/// The place of a word.
+fn place(words: &[Blob], word: &[u8]) -> Option<usize>
+    ensures { result ≡ position (λ other. bytes_eq other word.now) words.now }
+{
+    words.iter().position(|other| other.bytes() == word)
 }
 
 /// The type of a literal by itself; a number and Null take theirs from where they stand, and a constant has none where its

@@ -6,10 +6,8 @@ ghost use Rattle.hilti_resolve.specs.Values.{HasForm, MayTake};
 
 use crate::inner_value::InnerValue;
 use hilti_base::Place;
+use hilti_module::{Container, Double, InnerText, Parametric, PlainInner, PlainType, TypeText};
 use hilti_scope::Meaning;
-use hilti_module::{
-    Container, Double, InnerText, Parametric, PlainInner, PlainType, TypeText,
-};
 use hilti_types::{Inner, ValueType};
 
 /// The type of one word.

@@ -1,9 +1,11 @@
 //! The types that written types stand for, where these keep the rules of types.
-ghost use Rattle.std.specs.Prelude.{◌≡◌, Err, Ok, IfOk, map};
-ghost use Rattle.hilti_base.specs.declared.names.Place.{Place as APlace};
+ghost use Rattle.std.specs.Prelude.{Ok, map};
 ghost use Rattle.hilti_scope.specs.Scopes.{means};
-ghost use Rattle.hilti_resolve.specs.declared.fault.TypeFault.TheVariants.{Broken};
-ghost use Rattle.hilti_resolve.specs.Values.{all_of, read_of, value_of as value_told, parametric_value_of, inner_value_of, container_value_of, single_value as single_told, object_of as object_told};
+ghost use Rattle.hilti_resolve.specs.Answering.{BreaksAs, Gives, Makes};
+ghost use Rattle.hilti_resolve.specs.Values.{all_of, read_of, value_of as value_told};
+ghost use Rattle.hilti_resolve.specs.Values.{parametric_value_of, inner_value_of};
+ghost use Rattle.hilti_resolve.specs.Values.{container_value_of, single_value as single_told};
+ghost use Rattle.hilti_resolve.specs.Values.{object_of as object_told};
 
 use crate::fault::TypeFault;
 use crate::inner_value::InnerValue;
@@ -12,8 +14,8 @@ use crate::rules::{
     plain_value, reference_value, takes,
 };
 use hilti_base::{NoMemory, Place};
-use hilti_scope::Scope;
 use hilti_module::{Container, Double, InnerText, Parametric, Single, TypeText, TypeTexts};
+use hilti_scope::Scope;
 use hilti_types::{Inner, TypeTable, ValueType, ValueTypes, is_key};
 use sqlite_items::Boxed;
 use std::alloc::Global;
@@ -26,8 +28,8 @@ pub fn value_of(
     table: &TypeTable,
     text: &TypeText,
 ) -> Result<ValueType, TypeFault>
-    ensures kind { IfOk result (λ kind. value_told table.now (means scope.now) text.now ≡ Ok kind) }
-    ensures broken { (place : APlace) → result ≡ Err (Broken place) → value_told table.now (means scope.now) text.now ≡ Err place }
+    ensures kind { Gives result (value_told table.now (means scope.now) text.now) }
+    ensures broken { BreaksAs result (value_told table.now (means scope.now) text.now) }
 {
     match text {
         TypeText::Plain { place: _, plain } => Ok(plain_value(*plain)),
@@ -46,8 +48,8 @@ pub fn parametric_value(
     table: &TypeTable,
     parametric: &Parametric,
 ) -> Result<ValueType, TypeFault>
-    ensures kind { IfOk result (λ kind. parametric_value_of table.now (means scope.now) parametric.now ≡ Ok kind) }
-    ensures broken { (place : APlace) → result ≡ Err (Broken place) → parametric_value_of table.now (means scope.now) parametric.now ≡ Err place }
+    ensures kind { Gives result (parametric_value_of table.now (means scope.now) parametric.now) }
+    ensures broken { BreaksAs result (parametric_value_of table.now (means scope.now) parametric.now) }
 {
     match parametric {
         Parametric::Int { place, bits } => Ok(int_value(*place, bits.value)?),
@@ -80,8 +82,8 @@ fn part_values(
     table: &TypeTable,
     parts: &TypeTexts,
 ) -> Result<ValueTypes, TypeFault>
-    ensures kinds { IfOk result (λ kinds. all_of (map (read_of table.now (means scope.now)) parts.now) ≡ Ok kinds) }
-    ensures broken { (place : APlace) → result ≡ Err (Broken place) → all_of (map (read_of table.now (means scope.now)) parts.now) ≡ Err place }
+    ensures kinds { Gives result (all_of (map (read_of table.now (means scope.now)) parts.now)) }
+    ensures broken { BreaksAs result (all_of (map (read_of table.now (means scope.now)) parts.now)) }
 {
     let mut values = ValueTypes::new(alloc);
     for part in parts.as_slice() {
@@ -99,8 +101,8 @@ fn inner_value(
     table: &TypeTable,
     inner: &InnerText,
 ) -> Result<InnerValue, TypeFault>
-    ensures object { IfOk result (λ object. inner_value_of table.now (means scope.now) inner.now ≡ Ok object) }
-    ensures broken { (place : APlace) → result ≡ Err (Broken place) → inner_value_of table.now (means scope.now) inner.now ≡ Err place }
+    ensures object { Gives result (inner_value_of table.now (means scope.now) inner.now) }
+    ensures broken { BreaksAs result (inner_value_of table.now (means scope.now) inner.now) }
 {
     match inner {
         InnerText::Word { place: _, word } => Ok(inner_word(*word)),
@@ -120,8 +122,8 @@ pub fn container_value(
     table: &TypeTable,
     container: &Container,
 ) -> Result<Inner, TypeFault>
-    ensures object { IfOk result (λ object. container_value_of table.now (means scope.now) container.now ≡ Ok object) }
-    ensures broken { (place : APlace) → result ≡ Err (Broken place) → container_value_of table.now (means scope.now) container.now ≡ Err place }
+    ensures object { Gives result (container_value_of table.now (means scope.now) container.now) }
+    ensures broken { BreaksAs result (container_value_of table.now (means scope.now) container.now) }
 {
     match container {
         Container::Single {
@@ -159,8 +161,8 @@ fn single_value(
     single: Single,
     kind: ValueType,
 ) -> Result<Inner, TypeFault>
-    ensures object { IfOk result (λ object. single_told table.now place single (Ok kind) ≡ Ok object) }
-    ensures broken { (at : APlace) → result ≡ Err (Broken at) → single_told table.now place single (Ok kind) ≡ Err at }
+    ensures object { Gives result (single_told table.now place single (Ok kind)) }
+    ensures broken { BreaksAs result (single_told table.now place single (Ok kind)) }
 {
     match single {
         Single::List => {
@@ -188,7 +190,7 @@ fn object_of(
     first: ValueType,
     second: ValueType,
 ) -> Result<Inner, NoMemory>
-    ensures { IfOk result (λ object. object ≡ object_told double first second) }
+    ensures { Makes result (object_told double first second) }
 {
     let first = Boxed::new(alloc, first)?;
     let second = Boxed::new(alloc, second)?;

@@ -3,7 +3,8 @@ ghost use Rattle.std.specs.Prelude.{◌≡◌, ℕ, List, [], bytes_eq, OnOk, On
 ghost use Rattle.std.specs.List.{position};
 ghost use Rattle.hilti_module.specs.declared.module.Module.{Module as AModule};
 ghost use Rattle.hilti_scope.specs.Meanings as spec;
-ghost use Rattle.hilti_scope.specs.Scopes.{means, slot_in, comes_first_in, plain_means, means_there, AreOf, Hides, Sees};
+ghost use Rattle.hilti_scope.specs.Scopes.{means, slot_in, comes_first_in, plain_means};
+ghost use Rattle.hilti_scope.specs.Scopes.{means_there, AreOf, Hides, Sees};
 
 use crate::declarations::Declarations;
 use crate::first_places::FirstPlaces;
@@ -27,7 +28,8 @@ pub struct Scope<'a> {
 impl<'a> Scope<'a> {
     /// The scope of the item `here` of the module `file`, with no parameters or locals yet. It takes no memory.
     pub fn new(alloc: Global, declarations: &'a Declarations, file: usize, here: usize) -> Scope<'a>
-        ensures { (modules : List AModule) → AreOf modules declarations.now → Sees modules file here [] result }
+        ensures { (modules : List AModule) → AreOf modules declarations.now
+            → Sees modules file here [] result }
     {
         Scope {
             declarations,
