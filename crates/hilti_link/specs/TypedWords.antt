@@ -21,7 +21,8 @@ is_reserved roles.Member bytes = false
 -- the type is looked at, and then the word
 abbrev pub word_refusal : View → Role → List (List ℕ) → Parameter → Option Refusal
 word_refusal view role taken next =
-    option_or (refusal_of_type view next.kind) (again (is_among taken next.name.bytes || is_reserved role next.name.bytes) next.name)
+    option_or (refusal_of_type view next.kind)
+    (again (is_among taken next.name.bytes || is_reserved role next.name.bytes) next.name)
 
 abbrev pub taking_word : List (List ℕ) → Parameter → List (List ℕ)
 taking_word taken next = taking taken next.name

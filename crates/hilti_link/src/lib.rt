@@ -4,6 +4,7 @@
 mod entries;
 mod hooks;
 mod items;
+pub mod laws;
 mod linking;
 mod shapes;
 mod standing;

@@ -1,7 +1,7 @@
 //! Names over two modules.
-use super::*;
 use hilti_base::{Blob, Collection, NoMemory, Place, Refusal};
 use hilti_module::{Name, Word};
+use hilti_scope::{Declarations, Meaning, Modules, Scope, can_be_numbered};
 use hilti_syntax::read_module;
 use std::alloc::Global;
 use std::test::Fail;
@@ -60,9 +60,15 @@ fn names_of_two_modules(rt: HostRuntime) -> Result<(), Fail> {
     assert!(rt; can_be_numbered(&modules));
     let declarations = Declarations::of(alloc, &modules)?;
     let mut scope = Scope::new(alloc, &declarations, 1, 4);
-    scope.hide(b"p")?;
-    assert_eq!(rt; plain(alloc, &scope, b"p")?, Meaning::Local);
-    assert_eq!(rt; plain(alloc, &scope, b"g")?, Meaning::Global { n: 1 });
+    scope.hide(b"p", 0)?;
+    scope.hide(b"g", 1)?;
+    scope.hide(b"p", 2)?;
+    assert_eq!(rt; plain(alloc, &scope, b"p")?, Meaning::Local { slot: 0 });
+    assert_eq!(rt; plain(alloc, &scope, b"g")?, Meaning::Local { slot: 1 });
+    assert_eq!(rt;
+        within(alloc, &scope, b"B", b"g")?,
+        Meaning::Global { n: 1 }
+    );
     assert_eq!(rt;
         within(alloc, &scope, b"A", b"g")?,
         Meaning::Global { n: 0 }

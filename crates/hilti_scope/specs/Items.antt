@@ -1,5 +1,6 @@
 -- The items of a set of modules in textual order, and what they declare.
-use Rattle.std.specs.Prelude.{ℕ, suc, nat_eq, Bool, true, false, ◌&&◌, List, [], ◌∷◌, ◌++◌, map, bytes_eq, Option, Some, None}
+use Rattle.std.specs.Prelude.{ℕ, suc, nat_eq, Bool, true, false, ◌&&◌, List, [], ◌∷◌, ◌++◌, map}
+use Rattle.std.specs.Prelude.{bytes_eq, Option, Some, None}
 use Rattle.std.specs.List.{position}
 use Rattle.hilti_module.specs.declared.types.Word.{Word}
 use Rattle.hilti_module.specs.declared.module.Module.{Module}

@@ -157,7 +157,7 @@ fn printed_by_texts(alloc: Global, texts: &Names) -> Result<PrintLines, Refusal>
 {
     let modules = read_trees(alloc, texts)?;
     let linked = link(alloc, modules)?;
-    Ok(printed_by_modules(alloc, linked.modules.as_slice())?)
+    Ok(printed_by_modules(alloc, linked.modules().as_slice())?)
 }
 
 /// What the modules in files print. The files are read in order, then each text is read, and then all are linked: the
