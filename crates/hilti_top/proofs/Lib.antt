@@ -9,3 +9,4 @@ mod Shapes
 mod Typed
 mod Zips
 pub mod NotYet
+pub mod Opened

@@ -22,7 +22,8 @@ unfoldable pub AreFrom : ℕ → List (List ℕ) → List Module → Type 0
 AreFrom file [] [] = Unit {0}
 AreFrom file [] (m ∷ modules) = ⊥
 AreFrom file (text ∷ texts) [] = ⊥
-AreFrom file (text ∷ texts) (m ∷ modules) = TextIsModule file text m × AreFrom (suc file) texts modules
+AreFrom file (text ∷ texts) (m ∷ modules) =
+    TextIsModule file text m × AreFrom (suc file) texts modules
 
 -- each text is the module of its place
 abbrev pub AreModules : List (List ℕ) → List Module → Type 0

@@ -39,7 +39,8 @@ IsNameOf time bytes word Bytes = (word ≡ bytes) × (word ≢ time)
 
 -- an operand is one word alone, the name of this parameter
 abbrev pub IsOperand : List ℕ → List ℕ → Operand → Parameter → Type 0
-IsOperand time bytes (operands.Simple (simples.Name name)) printed = (name.second ≡ None) × IsNameOf time bytes name.first.bytes printed
+IsOperand time bytes (operands.Simple (simples.Name name)) printed =
+    (name.second ≡ None) × IsNameOf time bytes name.first.bytes printed
 IsOperand time bytes _ printed = ⊥
 
 -- a mnemonic is `print`
@@ -65,7 +66,8 @@ IsReturn _ = ⊥
 
 -- Lines are prints of these lists of parameters, and then the return. A call has fuel for fewer than 1,000,000 prints,
 -- and a text of at most 1,048,576 bytes has room for no more than 174,762.
-pub record ArePrints (time bytes : List ℕ) (all : List Line) (printed : List (List Parameter)) : Type 0 where
+pub record ArePrints (time bytes : List ℕ) (all : List Line) (printed : List (List Parameter))
+    : Type 0 where
   pub prints : List Line
   pub last : Line
   pub lines_are : all ≡ prints ++ last ∷ []
@@ -85,7 +87,9 @@ is_bytes (types.Parametric (parametric.Ref place (inner.Word within plain_inner.
 is_bytes _ = false
 
 -- a function of this name, of a time and bytes, is `packet`, and its body has no locals and prints these lists
-pub record IsPacket (name : Word) (time bytes : Declared) (body : Body) (printed : List (List Parameter)) : Type 0 where
+pub record IsPacket
+    (name : Word) (time bytes : Declared) (body : Body) (printed : List (List Parameter))
+    : Type 0 where
   pub named : name.bytes ≡ codes "packet"
   pub time_kind : IsTrue (is_time time.kind)
   pub bytes_kind : IsTrue (is_bytes bytes.kind)
@@ -94,7 +98,8 @@ pub record IsPacket (name : Word) (time bytes : Declared) (body : Body) (printed
 
 -- an item is the void function `packet`, which prints these lists
 abbrev pub IsPacketItem : Item → List (List Parameter) → Type 0
-IsPacketItem (items.Function None name (time ∷ bytes ∷ []) body) printed = IsPacket name time bytes body printed
+IsPacketItem (items.Function None name (time ∷ bytes ∷ []) body) printed =
+    IsPacket name time bytes body printed
 IsPacketItem _ printed = ⊥
 
 -- a module is `Main`, with that item alone

@@ -29,7 +29,8 @@ thread_lines lines (packet ∷ packets) =
 
 -- each call is one segment
 abbrev pub total : ℕ → List ℕ
-total calls = codes "total: " ++ decimal calls ++ codes " calls, " ++ decimal calls ++ codes " segments\n"
+total calls =
+    codes "total: " ++ decimal calls ++ codes " calls, " ++ decimal calls ++ codes " segments\n"
 
 abbrev pub report : List (List Parameter) → List Packet → List ℕ
 report lines packets = thread_lines lines packets ++ total (length packets)

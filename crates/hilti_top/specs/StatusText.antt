@@ -22,7 +22,8 @@ text_of Done = []
 text_of Usage = codes "hilti: usage: check, one, run or gen; see the manual\n"
 text_of ReadFault = codes "hilti: cannot read\n"
 text_of (BadModule place code) =
-    codes "hilti: module " ++ decimal place.file ++ codes ":" ++ decimal place.line ++ codes ":" ++ decimal place.column ++ code_text code
+    codes "hilti: module " ++ decimal place.file ++ codes ":" ++ decimal place.line
+    ++ codes ":" ++ decimal place.column ++ code_text code
 text_of (BadCapture at code) = codes "hilti: capture at " ++ decimal at ++ code_text code
 text_of WriteFault = codes "hilti: cannot write\n"
 text_of NoMemory = codes "hilti: out of memory\n"

@@ -17,14 +17,14 @@ returns-in-Ok-write_all-clause-done g c = λ is.
     let packets = capture_from (g.F.Files.files c.args.files.now) (g.F.Files.files c.read_modules.new.files) c.args.words.now
     c.in-Some.one.capture.now c.in-Some.one.modules.now c.in-Ok-read_capture.packets c.in-Some.ensures.command
     c.in-Ok.ensures.files c.in-Ok-read_capture.ensures.packets in
-    let grows = c.in-Ok-write_all.ensures.ok in (
-      c.in-Ok.lines,
-      c.in-Ok-read_capture.packets,
-      lines,
-      packets,
-      subst (λ text. Grows (g.S.Sink.written c.args.sink.now) (g.S.Sink.written c.write_all.new.sink) text)
-          (c.bytes.ensures ∙ c.in-Ok-write_report.ensures) grows,
-    )
+    let grows = c.in-Ok-write_all.ensures.ok in (record {
+      lines = c.in-Ok.lines;
+      packets = c.in-Ok-read_capture.packets;
+      accepted = lines;
+      capture = packets;
+      reported = subst (λ text. Grows (g.S.Sink.written c.args.sink.now) (g.S.Sink.written c.write_all.new.sink) text)
+          (c.bytes.ensures ∙ c.in-Ok-write_report.ensures) grows;
+    })
 
 pub returns-clause-write_fault : goal.returns-clause-write_fault
 returns-clause-write_fault g c = λ is.
@@ -33,11 +33,11 @@ returns-clause-write_fault g c = λ is.
     let packets = capture_from (g.F.Files.files c.args.files.now) (g.F.Files.files c.read_modules.new.files) c.args.words.now
     c.in-Some.one.capture.now c.in-Some.one.modules.now c.in-Ok-read_capture.packets c.in-Some.ensures.command
     c.in-Ok.ensures.files c.in-Ok-read_capture.ensures.packets in
-    let grows = c.in-Err.ensures.err in (
-      c.in-Ok.lines,
-      c.in-Ok-read_capture.packets,
-      lines,
-      packets,
-      subst (λ text. GrowsByFront (g.S.Sink.written c.args.sink.now) (g.S.Sink.written c.write_all.new.sink) text)
-          (c.bytes.ensures ∙ c.in-Ok-write_report.ensures) grows,
-    )
+    let grows = c.in-Err.ensures.err in (record {
+      lines = c.in-Ok.lines;
+      packets = c.in-Ok-read_capture.packets;
+      accepted = lines;
+      capture = packets;
+      reported = subst (λ text. GrowsByFront (g.S.Sink.written c.args.sink.now) (g.S.Sink.written c.write_all.new.sink) text)
+          (c.bytes.ensures ∙ c.in-Ok-write_report.ensures) grows;
+    })
