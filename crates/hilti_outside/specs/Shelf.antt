@@ -21,9 +21,11 @@ rest_at entries (Some spot) = drop spot.read (bytes_at entries spot.entry)
 -- a spot is in an entry, and not past its end
 abbrev pub IsWithin : List Entry → Option Spot → Type 0
 IsWithin entries None = Unit {0}
-IsWithin entries (Some spot) = (spot.entry < length entries) × (spot.read ≤ length (bytes_at entries spot.entry))
+IsWithin entries (Some spot) =
+    (spot.entry < length entries) × (spot.read ≤ length (bytes_at entries spot.entry))
 
 -- the file of a name is the entry at a place, and nowhere where there is none
 abbrev pub IsFoundAt : List Entry → List ℕ → Option ℕ → Type 0
 IsFoundAt entries name None = get (files_of entries) name ≡ None
-IsFoundAt entries name (Some at) = (at < length entries) × (get (files_of entries) name ≡ Some (bytes_at entries at))
+IsFoundAt entries name (Some at) =
+    (at < length entries) × (get (files_of entries) name ≡ Some (bytes_at entries at))

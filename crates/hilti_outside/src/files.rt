@@ -92,7 +92,8 @@ pub fn read_file<F: Files>(
     ensures within { IfOk result (λ bytes. length bytes ≤ limit) }
     ensures too_long { result ≡ Err FileFault.TooLong →
         WhereTold (F.files files.old) (λ all. limit < length (content all name.now)) }
-    ensures failed { result ≡ Err FileFault.Failed → Rose (F.faults files.old) (F.faults files.new) }
+    ensures failed { result ≡ Err FileFault.Failed →
+        Rose (F.faults files.old) (F.faults files.new) }
     ensures heard { result ≢ Err FileFault.Failed → F.faults files.new ≡ F.faults files.old }
 {
     files.open_file(name)?;

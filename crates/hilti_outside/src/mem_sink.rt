@@ -94,7 +94,8 @@ impl Sink for MemSink {
         ensures ok { IfOk result (λ n. self.new.written ≡ self.old.written ++ take n piece.now) }
         ensures err { OnErr result (self.new.written ≡ self.old.written) }
         ensures cause { HasCause self.old.faults self.new.faults result }
-        ensures most { IfOk result (λ n. n ≡ min (min self.old.chunk self.old.room) (length piece.now)) }
+        ensures most { IfOk result
+            (λ n. n ≡ min (min self.old.chunk self.old.room) (length piece.now)) }
         ensures room { IfOk result (λ n. self.new.room + n ≡ self.old.room) }
         ensures calls { self.new.calls ≡ counted self.old.calls }
         ensures fails { IsErr result ↔
