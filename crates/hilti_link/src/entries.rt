@@ -139,7 +139,8 @@ fn is_as_asked(item: &Item, name: &Word) -> bool
 
 /// Refuses a name of an entry, unless what it names is as asked.
 fn refuse_name(name: &Word, as_asked: bool) -> Result<(), Refusal>
-    ensures { Answers result (cond (spec.is_entry name.now.bytes) (spec.unless as_asked name.now) None) }
+    ensures { Answers result
+        (cond (spec.is_entry name.now.bytes) (spec.unless as_asked name.now) None) }
 {
     let word = name.bytes.bytes();
     let is_entry = word == b"packet".as_slice()

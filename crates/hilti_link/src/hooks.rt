@@ -52,7 +52,8 @@ fn announce_module<'a>(
     next: &'a Module,
 ) -> Result<(), NoMemory>
     requires { here + length next.now.items < 2 ^ 31 }
-    ensures { OnOk result (map shows hooks.new.items ≡ map shows hooks.old.items ++ spec.announced_from
+    ensures { OnOk result (map shows hooks.new.items
+        ≡ map shows hooks.old.items ++ spec.announced_from
         here (placed_in file next.now.items)) }
 {
     for (at, item) in next.items.as_slice().iter().enumerate() {

@@ -66,9 +66,11 @@ fn link_type(
     name: &Word,
     shape: &Shape,
 ) -> Result<(), Refusal>
-    ensures tables { OnOk result (Adds context.now standing.now tables.old (Item.Type name.now shape.now)
+    ensures tables { OnOk result
+        (Adds context.now standing.now tables.old (Item.Type name.now shape.now)
         tables.new) }
-    ensures refusal { AnswersFor context.now standing.now tables.old (Item.Type name.now shape.now) result }
+    ensures refusal { AnswersFor context.now standing.now tables.old
+        (Item.Type name.now shape.now) result }
 {
     let scope = standing.scope(alloc, &context.declarations);
     standing.refuse_declared(&scope, name)?;
@@ -85,7 +87,8 @@ fn link_shape(
     name: Blob,
     shape: &Shape,
 ) -> Result<(), Refusal>
-    ensures tables { OnOk result (tables.new ≡ spec.with_shape (view_in tables.old scope.now) site name
+    ensures tables { OnOk result (tables.new
+        ≡ spec.with_shape (view_in tables.old scope.now) site name
         shape.now) }
     ensures refusal { Answers result (shape_refusal (view_in tables.old scope.now) shape.now) }
 {
@@ -126,7 +129,8 @@ fn link_global(
 ) -> Result<(), Refusal>
     ensures tables { OnOk result (Adds context.now standing.now tables.old
         (Item.Global kind.now name.now value.now) tables.new) }
-    ensures refusal { AnswersFor context.now standing.now tables.old (Item.Global kind.now name.now value.now)
+    ensures refusal { AnswersFor context.now standing.now tables.old
+        (Item.Global kind.now name.now value.now)
         result }
 {
     let scope = standing.scope(alloc, &context.declarations);
@@ -149,7 +153,8 @@ fn refuse_value(
     kind: &ValueType,
     value: &Option<Literal>,
 ) -> Result<(), Refusal>
-    ensures { Answers result (spec.value_refusal_by (view_in tables.now scope.now) kind.now value.now) }
+    ensures { Answers result
+        (spec.value_refusal_by (view_in tables.now scope.now) kind.now value.now) }
 {
     let Some(literal) = value else {
         return Ok(());
@@ -169,9 +174,11 @@ fn link_hook(
     name: &Word,
     parameters: &Parameters,
 ) -> Result<(), Refusal>
-    ensures tables { OnOk result (Adds context.now standing.now tables.old (Item.Hook name.now parameters.now)
+    ensures tables { OnOk result
+        (Adds context.now standing.now tables.old (Item.Hook name.now parameters.now)
         tables.new) }
-    ensures refusal { AnswersFor context.now standing.now tables.old (Item.Hook name.now parameters.now) result }
+    ensures refusal { AnswersFor context.now standing.now tables.old
+        (Item.Hook name.now parameters.now) result }
 {
     let scope = standing.scope(alloc, &context.declarations);
     standing.refuse_declared(&scope, name)?;
@@ -195,7 +202,8 @@ fn link_hook_body(
     parameters: &Parameters,
     body: &Body,
 ) -> Result<(), Refusal>
-    ensures tables { OnOk result ((priority : Option Number) → Adds context.now standing.now tables.old
+    ensures tables { OnOk result ((priority : Option Number)
+        → Adds context.now standing.now tables.old
         (Item.HookBody name.now parameters.now priority body.now) tables.new) }
     ensures refusal { (priority : Option Number) → AnswersFor context.now standing.now tables.old
         (Item.HookBody name.now parameters.now priority body.now) result }
@@ -241,8 +249,10 @@ fn read_result(
     scope: &Scope<'_>,
     returns: &Option<TypeText>,
 ) -> Result<Option<ValueType>, Refusal>
-    ensures kind { IfOk result (λ kind. kind ≡ option_map (type_at (view_in tables.now scope.now)) returns.now) }
-    ensures refusal { Answers result (spec.result_refusal (view_in tables.now scope.now) returns.now) }
+    ensures kind { IfOk result (λ kind. kind
+        ≡ option_map (type_at (view_in tables.now scope.now)) returns.now) }
+    ensures refusal { Answers result
+        (spec.result_refusal (view_in tables.now scope.now) returns.now) }
 {
     match returns {
         Some(text) => Ok(Some(read_type(alloc, scope, &tables.types, text)?)),

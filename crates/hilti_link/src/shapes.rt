@@ -72,7 +72,8 @@ fn read_member(
     taken: &FirstPlaces,
     field: &Parameter,
 ) -> Result<Member, Refusal>
-    ensures member { IfOk result (λ member. member ≡ spec.member_of (view_in tables.now scope.now) field.now) }
+    ensures member { IfOk result (λ member. member
+        ≡ spec.member_of (view_in tables.now scope.now) field.now) }
     ensures refusal { ForWords taken.now (λ words. Answers result
         (word_refusal (view_in tables.now scope.now) roles.Member words field.now)) }
 {
@@ -88,9 +89,11 @@ pub fn read_members(
     scope: &Scope<'_>,
     fields: &[Parameter],
 ) -> Result<Members, Refusal>
-    ensures members { IfOk result (λ members. members ≡ map (spec.member_of (view_in tables.now scope.now))
+    ensures members { IfOk result (λ members. members
+        ≡ map (spec.member_of (view_in tables.now scope.now))
         fields.now) }
-    ensures refusal { Answers result (words_refusal (view_in tables.now scope.now) roles.Member fields.now) }
+    ensures refusal { Answers result
+        (words_refusal (view_in tables.now scope.now) roles.Member fields.now) }
 {
     let mut members = Members::new(alloc);
     let mut taken = FirstPlaces::new(alloc);
@@ -208,7 +211,8 @@ fn read_field(
     taken: &FirstPlaces,
     field: &Field,
 ) -> Result<OverlayField, Refusal>
-    ensures field { IfOk result (λ made. made ≡ spec.overlay_field_of (view_in tables.now scope.now) field.now) }
+    ensures field { IfOk result (λ made. made
+        ≡ spec.overlay_field_of (view_in tables.now scope.now) field.now) }
     ensures refusal { ForWords taken.now (λ words. Answers result
         (spec.field_refusal (view_in tables.now scope.now) words field.now)) }
 {
@@ -225,9 +229,11 @@ pub fn read_fields(
     scope: &Scope<'_>,
     fields: &[Field],
 ) -> Result<OverlayFields, Refusal>
-    ensures fields { IfOk result (λ made. made ≡ map (spec.overlay_field_of (view_in tables.now scope.now))
+    ensures fields { IfOk result (λ made. made
+        ≡ map (spec.overlay_field_of (view_in tables.now scope.now))
         fields.now) }
-    ensures refusal { Answers result (spec.fields_refusal (view_in tables.now scope.now) fields.now) }
+    ensures refusal { Answers result
+        (spec.fields_refusal (view_in tables.now scope.now) fields.now) }
 {
     let mut made = OverlayFields::new(alloc);
     let mut taken = FirstPlaces::new(alloc);

@@ -67,7 +67,8 @@ pub fn read_word(
     role: Role,
     word: &Parameter,
 ) -> Result<ValueType, Refusal>
-    ensures kind { IfOk result (λ kind. kind ≡ type_at (view_in tables.now scope.now) word.now.kind) }
+    ensures kind { IfOk result (λ kind. kind
+        ≡ type_at (view_in tables.now scope.now) word.now.kind) }
     ensures refusal { ForWords taken.now (λ words. Answers result
         (spec.word_refusal (view_in tables.now scope.now) role words word.now)) }
 {
@@ -89,7 +90,8 @@ pub fn read_more_words(
     kinds: &mut ValueTypes,
     words: &[Parameter],
 ) -> Result<(), Refusal>
-    ensures kinds { OnOk result (kinds.new ≡ kinds.old ++ spec.kinds_of (view_in tables.now scope.now)
+    ensures kinds { OnOk result (kinds.new
+        ≡ kinds.old ++ spec.kinds_of (view_in tables.now scope.now)
         words.now) }
     ensures taken { OnOk result (ForWords taken.old
         (λ before. Holds (behind_all spec.taking_word before words.now) taken.new)) }
@@ -113,8 +115,10 @@ pub fn read_words(
     role: Role,
     words: &[Parameter],
 ) -> Result<ValueTypes, Refusal>
-    ensures kinds { IfOk result (λ kinds. kinds ≡ spec.kinds_of (view_in tables.now scope.now) words.now) }
-    ensures refusal { Answers result (spec.words_refusal (view_in tables.now scope.now) role words.now) }
+    ensures kinds { IfOk result (λ kinds. kinds
+        ≡ spec.kinds_of (view_in tables.now scope.now) words.now) }
+    ensures refusal { Answers result
+        (spec.words_refusal (view_in tables.now scope.now) role words.now) }
 {
     let mut kinds = ValueTypes::new(alloc);
     let mut taken = FirstPlaces::new(alloc);

@@ -1,5 +1,6 @@
 -- What the fakes in memory hold.
-use Rattle.std.specs.Prelude.{ℕ, ◌+◌, ◌-◌, ◌^◌, min, List, Bool, true, false, Option, Some, None, refl}
+use Rattle.std.specs.Prelude.{ℕ, ◌+◌, ◌-◌, ◌^◌, min, List, Bool, true, false, Option, Some, None}
+use Rattle.std.specs.Prelude.{refl}
 use Rattle.std.specs.FinMap as map
 use Rattle.std.specs.Coded.{Coded, code_by, coded×, coded_ℕ, coded_list, coded_option}
 use Rattle.hilti_outside.specs.Contents.{FileMap}
@@ -19,8 +20,9 @@ shelved_code =
     code_by (FileMap × List ℕ) (coded× (map.code bytes_code bytes_code) bytes_code)
     (λ s. (s.files, s.rest)) (λ p. record { files = p.0; rest = p.1 }) (λ _. refl)
 
--- files whose calls fail as planned: by their numbers, where `calls` were made and `faults` failed, and a read gives at
--- most a chunk; the names that were opened are told for as long as there was memory to keep them
+-- files whose calls fail as planned: by their numbers, where `calls` were made and `faults` failed,
+-- and a read gives at most a chunk; the names that were opened are told for as long as there was
+-- memory to keep them
 pub record PlannedFiles : Type 0 where
   pub files : FileMap
   pub rest : List ℕ
@@ -58,7 +60,8 @@ planned_files_code =
     })
     (λ _. refl)
 
--- a sink whose calls fail as planned: a write takes at most a chunk, and no more than there is room for
+-- a sink whose calls fail as planned: a write takes at most a chunk, and no more than there is room
+-- for
 pub record PlannedSink : Type 0 where
   pub written : List ℕ
   pub room : ℕ
@@ -67,7 +70,8 @@ pub record PlannedSink : Type 0 where
   pub faults : ℕ
   pub chunk : ℕ
 
--- what a sink that never fails keeps, the room that it has left, and how many bytes it took and didn't keep
+-- what a sink that never fails keeps, the room that it has left, and how many bytes it took and
+-- didn't keep
 pub record KeptBytes : Type 0 where
   pub kept : List ℕ
   pub room : ℕ

@@ -1,5 +1,6 @@
 -- How a shelf lays out its files.
-use Rattle.std.specs.Prelude.{◌≡◌, ℕ, ◌<◌, ◌≤◌, List, [], length, drop, slice_index_or, Option, Some, None, fold}
+use Rattle.std.specs.Prelude.{◌≡◌, ℕ, ◌<◌, ◌≤◌, List, [], length, drop, slice_index_or, Option}
+use Rattle.std.specs.Prelude.{Some, None, fold}
 use Rattle.std.specs.FinMap.{empty, insert, get}
 use Rattle.hilti_outside.specs.Contents.{FileMap}
 use Rattle.hilti_outside.specs.declared.shelf.Entry.{Entry}

@@ -1,7 +1,8 @@
 -- What the files and the output of the system tell, as far as std's readers and writers tell it.
 use Rattle.std.specs.Prelude.{ℕ, List, [], Option, Some, None}
 
--- the bytes of the current file that are still unread, where its reader tells them, and how many calls failed
+-- the bytes of the current file that are still unread, where its reader tells them, and how many
+-- calls failed
 pub record SystemFiles : Type 0 where
   pub rest : Option (List ℕ)
   pub faults : ℕ

@@ -1,4 +1,5 @@
-ghost use Rattle.std.specs.Prelude.{◌≡◌, ◌≢◌, ℕ, ◌<◌, ◌≤◌, List, [], ◌∷◌, length, Option, Some, IsSome, IfOk, OnOk, OnErr};
+ghost use Rattle.std.specs.Prelude.{◌≡◌, ◌≢◌, ℕ, ◌<◌, ◌≤◌, List, [], ◌∷◌, length, Option, Some};
+ghost use Rattle.std.specs.Prelude.{IsSome, IfOk, OnOk, OnErr};
 ghost use Rattle.std.specs.Io.{ReadsAtMost};
 ghost use Rattle.std.specs.Io.KnownBytes.{ReadConsumes};
 ghost use Rattle.hilti_outside.specs.Faults.{HasCause, Rose};
@@ -92,8 +93,8 @@ pub fn read_file<F: Files>(
     ensures within { IfOk result (λ bytes. length bytes ≤ limit) }
     ensures too_long { result ≡ Err FileFault.TooLong →
         WhereTold (F.files files.old) (λ all. limit < length (content all name.now)) }
-    ensures failed { result ≡ Err FileFault.Failed →
-        Rose (F.faults files.old) (F.faults files.new) }
+    ensures failed { result ≡ Err FileFault.Failed
+        → Rose (F.faults files.old) (F.faults files.new) }
     ensures heard { result ≢ Err FileFault.Failed → F.faults files.new ≡ F.faults files.old }
 {
     files.open_file(name)?;

@@ -1,4 +1,5 @@
-ghost use Rattle.std.specs.Prelude.{◌≡◌, ◌↔◌, ◌⊎◌, refl, ℕ, ◌<◌, ◌≤◌, [], length, min, ◌∷◌, Option, Some, None, IsNone, IfSome, IfOk, OnOk, OnErr, IsErr};
+ghost use Rattle.std.specs.Prelude.{◌≡◌, ◌↔◌, ◌⊎◌, refl, ℕ, ◌<◌, ◌≤◌, [], length, min, ◌∷◌, Option};
+ghost use Rattle.std.specs.Prelude.{Some, None, IsNone, IfSome, IfOk, OnOk, OnErr, IsErr};
 ghost use Rattle.std.specs.List.{Contains};
 ghost use Rattle.std.specs.FinMap.{empty, insert, get};
 ghost use Rattle.std.specs.Io.{ReadsAtMost};

@@ -1,4 +1,6 @@
-ghost use Rattle.std.specs.Prelude.{◌≡◌, ◌↔◌, ◌⊎◌, ℕ, ◌+◌, ◌-◌, ◌<◌, ◌≤◌, [], ◌++◌, length, take, min, max, Option, Some, IfOk, OnOk, OnErr, IsErr, vec_len, vec_capacity};
+ghost use Rattle.std.specs.Prelude.{◌≡◌, ◌↔◌, ◌⊎◌, ℕ, ◌+◌, ◌-◌, ◌<◌, ◌≤◌, [], ◌++◌, length, take};
+ghost use Rattle.std.specs.Prelude.{min, max, Option, Some, IfOk, OnOk, OnErr, IsErr, vec_len};
+ghost use Rattle.std.specs.Prelude.{vec_capacity};
 ghost use Rattle.std.specs.List.{Contains};
 ghost use Rattle.std.specs.Io.{WritesAtMost};
 ghost use Rattle.hilti_outside.specs.Faults.{HasCause};
@@ -94,8 +96,8 @@ impl Sink for MemSink {
         ensures ok { IfOk result (λ n. self.new.written ≡ self.old.written ++ take n piece.now) }
         ensures err { OnErr result (self.new.written ≡ self.old.written) }
         ensures cause { HasCause self.old.faults self.new.faults result }
-        ensures most { IfOk result
-            (λ n. n ≡ min (min self.old.chunk self.old.room) (length piece.now)) }
+        ensures most { IfOk result (λ n. n
+            ≡ min (min self.old.chunk self.old.room) (length piece.now)) }
         ensures room { IfOk result (λ n. self.new.room + n ≡ self.old.room) }
         ensures calls { self.new.calls ≡ counted self.old.calls }
         ensures fails { IsErr result ↔

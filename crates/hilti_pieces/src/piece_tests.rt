@@ -4,7 +4,7 @@ use hilti_kinds::Kind;
 use hilti_lexer::{Token, TokenKind, Tokens};
 use std::test::Fail;
 
-// A token in the first line of the first module.
+/// A token in the first line of the first module.
 fn token(column: u32, kind: TokenKind) -> Token {
     let place = Place {
         file: 0,

@@ -6,9 +6,8 @@ use Rattle.hilti_lexer.specs.declared.token.TokenKind.TheVariants as tokens
 use Rattle.hilti_grammar.specs.Grammar.{Tree.Left}
 use Rattle.hilti_module.specs.declared.module.Literal.{Literal}
 use Rattle.hilti_module.specs.declared.module.Literal.TheVariants as literals
-use Rattle.hilti_module.specs.declared.module.Simple.TheVariants as simples
 use Rattle.hilti_kinds.specs.Kinds.{keyword_kinds}
-use Rattle.hilti_reader.specs.Modules.{any_words, second_kinds}
+use Rattle.hilti_reader.specs.Modules.{second_kinds}
 use Rattle.hilti_reader.specs.Readers.{IsAmong}
 use Rattle.hilti_read_literals.specs.Literals.{literal_tree, literal_spot}
 use Rattle.hilti_read_literals.specs.Literals.{values, is_one_token}

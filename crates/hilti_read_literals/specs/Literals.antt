@@ -5,7 +5,6 @@ use Rattle.hilti_lexer.specs.declared.token.TokenKind.TheVariants as tokens
 use Rattle.hilti_grammar.specs.Grammar.{Tree.Nothing, Tree.Pair, Tree.Left, Tree.Right}
 use Rattle.hilti_kinds.specs.declared.kind.Kind.{Kind}
 use Rattle.hilti_kinds.specs.declared.kind.Kind.TheVariants as kinds
-use Rattle.hilti_module.specs.declared.types.Number.{Number}
 use Rattle.hilti_module.specs.declared.types.PlainType.TheVariants as plain
 use Rattle.hilti_module.specs.declared.module.Simple.{Simple}
 use Rattle.hilti_module.specs.declared.module.Simple.TheVariants as simples

@@ -1,18 +1,9 @@
 -- Literals of one token that are operands.
-use Rattle.std.proofs.Common.{◌≡◌, ℕ, Bool, true, false, List, refl}
-use Rattle.hilti_base.specs.declared.names.Place.{Place}
-use Rattle.hilti_lexer.specs.declared.token.TokenKind.{TokenKind}
-use Rattle.hilti_lexer.specs.declared.token.TokenKind.TheVariants as tokens
-use Rattle.hilti_grammar.specs.Grammar.{Tree.Left}
+use Rattle.std.proofs.Common.{◌≡◌, true, refl}
 use Rattle.hilti_module.specs.declared.module.Literal.{Literal}
 use Rattle.hilti_module.specs.declared.module.Literal.TheVariants as literals
 use Rattle.hilti_module.specs.declared.module.Simple.TheVariants as simples
-use Rattle.hilti_kinds.specs.Kinds.{keyword_kinds}
-use Rattle.hilti_reader.specs.Modules.{any_words, second_kinds}
-use Rattle.hilti_reader.specs.Readers.{IsAmong}
-use Rattle.hilti_read_literals.specs.Literals.{literal_tree, literal_spot}
-use Rattle.hilti_read_literals.specs.Literals.{values, is_one_token}
-use Rattle.hilti_reader.proofs.Payloads.{no_mark, neither, look_up_none}
+use Rattle.hilti_read_literals.specs.Literals.{is_one_token}
 use Rattle.hilti_read_operands.specs.Operands.{IsOneToken}
 
 -- a literal of one token is an operand of one token

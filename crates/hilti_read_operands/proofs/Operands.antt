@@ -17,11 +17,9 @@ use Rattle.hilti_reader.specs.declared.stop.Stop.{Stop}
 use Rattle.hilti_module.specs.declared.module.Simple.{Simple}
 use Rattle.hilti_module.specs.declared.module.Operand.{Operand}
 use Rattle.hilti_module.specs.declared.module.Operand.TheVariants as operands
-use Rattle.hilti_module.specs.declared.module.Mnemonic.{Mnemonic}
-use Rattle.hilti_module.specs.declared.types.Word.{Word}
 use Rattle.hilti_module.specs.declared.module.Seconds.{Seconds}
 use Rattle.hilti_reader.specs.Modules.{RuleName, RuleName.Operands as the_operands, RuleName.OperandsBehindTime as behind_time, RuleName.GroupText as a_group, RuleName.SimpleText as a_simple, RuleName.OtherSimple as another, grammar, told_rules, time_words, comma, in_parens, second_kinds}
-use Rattle.hilti_reader.specs.Spelled.{ModuleTree, keyword_tree, maybe_tree, between_marks, marked_at, word_tree}
+use Rattle.hilti_reader.specs.Spelled.{ModuleTree, keyword_tree, maybe_tree, between_marks, marked_at}
 use Rattle.hilti_read_literals.specs.Literals.{TimePart, time_part, seconds_tree}
 use Rattle.hilti_read_operands.specs.Operands.{other_tree, simple_of, simple_tree, operand_of, operands_tree, group_tree}
 use Rattle.hilti_reader.specs.Loops.{GathersAll}

@@ -11,7 +11,6 @@ use Rattle.hilti_module.specs.declared.module.Operand.{Operand}
 use Rattle.hilti_module.specs.declared.module.Operand.TheVariants as operands
 use Rattle.hilti_module.specs.declared.module.Simple.{Simple}
 use Rattle.hilti_module.specs.declared.module.Simple.TheVariants as simples
-use Rattle.hilti_module.specs.declared.module.Literal.{Literal}
 use Rattle.hilti_module.specs.declared.module.Literal.TheVariants as literals
 use Rattle.hilti_module.specs.declared.module.Seconds.{Seconds}
 use Rattle.hilti_reader.specs.Modules.{grammar, RuleName.Operands as the_operands, told_rules, plain_operands, words, RuleName.SimpleText as a_simple, listed}

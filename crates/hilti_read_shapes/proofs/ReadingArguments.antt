@@ -1,8 +1,7 @@
 -- Lemmas for the readers of arguments and shapes.
-use Rattle.std.proofs.Common.{◌≡◌, ◌<◌, length, arith, Bool, true, false, List, [], ◌∷◌, get_or, refl, sym, ◌∙◌, ap, subst, eqb}
-use Rattle.std.proofs.lemmas.Bool.{eqb-true}
-use Rattle.std.specs.Prelude.{Result, Ok, Err, ◌||◌, IfOk}
-use Rattle.hilti_grammar.specs.Grammar.{Symbol.Rule, has, sees}
+use Rattle.std.proofs.Common.{◌≡◌, ◌<◌, length, arith, Bool, true, List, [], ◌∷◌, refl, sym, subst}
+use Rattle.std.specs.Prelude.{Result, Ok, Err, IfOk}
+use Rattle.hilti_grammar.specs.Grammar.{Symbol.Rule, sees}
 use Rattle.hilti_grammar.specs.Predictive.{known}
 use Rattle.hilti_grammar.specs.Reads.{separated}
 use Rattle.hilti_grammar.specs.Runs.{Outcome, Runs.GivesUp, Runs.Follows, Runs.ToLeft}
@@ -13,7 +12,6 @@ use Rattle.hilti_module.specs.declared.module.Parameter.{Parameter}
 use Rattle.hilti_kinds.specs.declared.piece.Piece.{Piece}
 use Rattle.hilti_reader.specs.declared.stop.Stop.{Stop}
 use Rattle.hilti_read_shapes.specs.Shapes.{parameters_tree, inside_tree}
-use Rattle.hilti_kinds.specs.Kinds.{kind_number}
 use Rattle.hilti_reader.specs.Modules.{RuleName.Params as parameters, grammar, told_rules, typed_word, comma, maybe}
 use Rattle.hilti_reader.specs.Readers.{ReadsTree}
 use Rattle.hilti_reader.proofs.Exits.{Goes}

@@ -1,5 +1,5 @@
 -- Trees of lines and bodies that a text can have tell what they are of.
-use Rattle.std.proofs.Common.{◌≡◌, Bool, true, false, List, refl, sym, ◌∙◌, ap}
+use Rattle.std.proofs.Common.{◌≡◌, Bool, true, false, List, refl, sym, ap}
 use Rattle.std.specs.Prelude.{map, cond, codes, Option, Some, None}
 use Rattle.hilti_base.specs.declared.names.Place.{Place}
 use Rattle.hilti_lexer.specs.declared.token.TokenKind.TheVariants as tokens

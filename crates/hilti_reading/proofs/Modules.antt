@@ -1,5 +1,5 @@
 -- A text is at most one module.
-use Rattle.std.proofs.Common.{◌≡◌, ◌≤◌, ℕ, List, subst}
+use Rattle.std.proofs.Common.{◌≡◌, ◌≤◌, List, subst}
 use Rattle.std.proofs.Math.Bridge.{le_prop}
 use Rattle.std.specs.Prelude.{map}
 use Rattle.hilti_lexer.proofs.Unique.{one_reading}
@@ -15,7 +15,6 @@ use Rattle.hilti_reader.specs.Modules.{RuleName.ItemText as an_item, RuleName.Mo
 use Rattle.hilti_pieces.specs.Pieces.{pieces_of}
 use Rattle.hilti_refusals.specs.Refusals.{DerivesModule}
 use Rattle.hilti_reader.specs.Spelled.{word_tree}
-use Rattle.hilti_syntax.specs.Texts.{TextIsModule}
 use Rattle.hilti_reading.specs.OneModule.{OneModule}
 use Rattle.hilti_reading.proofs.Equal.{both}
 use Rattle.hilti_reading.proofs.Fits.{Fits, fits_both, fits_rule, fitting_one}

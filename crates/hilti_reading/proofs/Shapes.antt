@@ -1,9 +1,8 @@
 -- Trees of parameters, fields and declared types tell what they are of.
-use Rattle.std.proofs.Common.{◌≡◌, Bool, true, false, List, [], ◌∷◌, refl, sym, ◌∙◌, ap}
-use Rattle.std.specs.Prelude.{map, cond, codes, bytes_eq, Option, Some, None}
+use Rattle.std.proofs.Common.{◌≡◌, Bool, true, false, List, [], ◌∷◌, refl, sym, ap}
+use Rattle.std.specs.Prelude.{cond, codes, bytes_eq, Option, Some, None}
 use Rattle.hilti_base.specs.declared.names.Place.{Place}
 use Rattle.hilti_grammar.specs.Grammar.{Tree.Pair, Tree.Left, Tree.Right}
-use Rattle.hilti_grammar.specs.Reads.{separated_tree}
 use Rattle.hilti_kinds.specs.declared.kind.Kind.TheVariants as kinds
 use Rattle.hilti_module.specs.declared.types.TypeText.{TypeText}
 use Rattle.hilti_module.specs.declared.types.Word.{Word}

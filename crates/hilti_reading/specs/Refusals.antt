@@ -14,4 +14,4 @@ NeverBoth =
 abbrev pub OneRefusal : Type 0
 OneRefusal = (file : ℕ) (text : List ℕ) (code other : ℕ) (place elsewhere : Place) →
     TextRefused file text code place → TextRefused file text other elsewhere →
-        (code ≡ other) × (place ≡ elsewhere)
+    (code ≡ other) × (place ≡ elsewhere)

@@ -68,7 +68,8 @@ fn inner_depth(scope: &Scope<'_>, table: &TypeTable, inner: &InnerText) -> u32
 /// The same of a container.
 #[cycle(depth)]
 pub fn container_depth(scope: &Scope<'_>, table: &TypeTable, container: &Container) -> u32
-    ensures { result ≡ min 17 (written_container_depth (depths table.now) (means scope.now) container.now) }
+    ensures { result
+        ≡ min 17 (written_container_depth (depths table.now) (means scope.now) container.now) }
 {
     match container {
         Container::Single {

@@ -34,7 +34,8 @@ pub fn field_form(kind: &ValueType, form: &Form) -> Option<FieldForm>
 
 /// The form `Bytes(length)` of a field of this type.
 fn bytes_form(kind: &ValueType, length: u64) -> Option<FieldForm>
-    ensures { result ≡ cond (forms.is_bytes kind.now && nat_le length 65535) (forms.whole length) None }
+    ensures { result
+        ≡ cond (forms.is_bytes kind.now && nat_le length 65535) (forms.whole length) None }
 {
     if matches!(kind, ValueType::Bytes) && length <= MOST_BYTES {
         Some(FieldForm {

@@ -22,8 +22,10 @@ pub fn read_literal(
     literal: &Literal,
 ) -> Result<Tree, Refusal>
     ensures value { Makes result (values.literal_value table.now (means scope.now) literal.now) }
-    ensures accepted { Accepts result (literal_refusal table.now (means scope.now) kind.now literal.now) }
-    ensures refusal { RefusesAs result (literal_refusal table.now (means scope.now) kind.now literal.now) }
+    ensures accepted { Accepts result
+        (literal_refusal table.now (means scope.now) kind.now literal.now) }
+    ensures refusal { RefusesAs result
+        (literal_refusal table.now (means scope.now) kind.now literal.now) }
 {
     match check_literal(scope, table, kind, literal) {
         Some(refusal) => Err(refusal),

@@ -20,7 +20,8 @@ pub fn same_type(
     other_scope: &Scope<'_>,
     other: &TypeText,
 ) -> bool
-    ensures { IsTrue result ↔ (says (means scope.now) text.now ≡ says (means other_scope.now) other.now) }
+    ensures { IsTrue result
+        ↔ (says (means scope.now) text.now ≡ says (means other_scope.now) other.now) }
 {
     match text {
         TypeText::Plain { place: _, plain } => match other {
@@ -53,7 +54,8 @@ fn same_parametric(
     other_scope: &Scope<'_>,
     other: &Parametric,
 ) -> bool
-    ensures { IsTrue result ↔ (parametric_writes (means scope.now) parametric.now ≡ parametric_writes
+    ensures { IsTrue result
+        ↔ (parametric_writes (means scope.now) parametric.now ≡ parametric_writes
         (means other_scope.now) other.now) }
 {
     match parametric {
@@ -96,7 +98,8 @@ fn same_parts(
     other_scope: &Scope<'_>,
     others: &TypeTexts,
 ) -> bool
-    ensures { IsTrue result ↔ (map (says (means scope.now)) parts.now ≡ map (says (means other_scope.now))
+    ensures { IsTrue result
+        ↔ (map (says (means scope.now)) parts.now ≡ map (says (means other_scope.now))
         others.now) }
 {
     let left = parts.as_slice();

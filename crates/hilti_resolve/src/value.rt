@@ -49,7 +49,8 @@ pub fn parametric_value(
     parametric: &Parametric,
 ) -> Result<ValueType, TypeFault>
     ensures kind { Gives result (parametric_value_of table.now (means scope.now) parametric.now) }
-    ensures broken { BreaksAs result (parametric_value_of table.now (means scope.now) parametric.now) }
+    ensures broken { BreaksAs result
+        (parametric_value_of table.now (means scope.now) parametric.now) }
 {
     match parametric {
         Parametric::Int { place, bits } => Ok(int_value(*place, bits.value)?),
@@ -83,7 +84,8 @@ fn part_values(
     parts: &TypeTexts,
 ) -> Result<ValueTypes, TypeFault>
     ensures kinds { Gives result (all_of (map (read_of table.now (means scope.now)) parts.now)) }
-    ensures broken { BreaksAs result (all_of (map (read_of table.now (means scope.now)) parts.now)) }
+    ensures broken { BreaksAs result
+        (all_of (map (read_of table.now (means scope.now)) parts.now)) }
 {
     let mut values = ValueTypes::new(alloc);
     for part in parts.as_slice() {
@@ -123,7 +125,8 @@ pub fn container_value(
     container: &Container,
 ) -> Result<Inner, TypeFault>
     ensures object { Gives result (container_value_of table.now (means scope.now) container.now) }
-    ensures broken { BreaksAs result (container_value_of table.now (means scope.now) container.now) }
+    ensures broken { BreaksAs result
+        (container_value_of table.now (means scope.now) container.now) }
 {
     match container {
         Container::Single {

@@ -226,9 +226,11 @@ impl Gathering {
     /// Adds the items of a module, whose names are noted in `names`.
     fn add_items(&mut self, names: &mut FirstPlaces, items: &[Item]) -> Result<(), NoMemory>
         requires { HasRoom (length items.now) self.old }
-        ensures behind { OnOk result ((before : List Placed) (file : ℕ) → IsBehind before self.old → IsBehind
+        ensures behind { OnOk result ((before : List Placed) (file : ℕ) → IsBehind before self.old
+            → IsBehind
             (before ++ placed_in file items.now) self.new) }
-        ensures names { OnOk result ((before : List Placed) (file : ℕ) → IsBehind before self.old → AreNames
+        ensures names { OnOk result ((before : List Placed) (file : ℕ) → IsBehind before self.old
+            → AreNames
             file before names.old → AreNames file (before ++ placed_in file items.now) names.new) }
         ensures kept { OnOk result (KeepsNames self.old self.new) }
     {
@@ -241,9 +243,11 @@ impl Gathering {
     /// Adds an item of a module, whose names are noted in `names`.
     fn add_item(&mut self, names: &mut FirstPlaces, item: &Item) -> Result<(), NoMemory>
         requires { HasRoom 1 self.old }
-        ensures behind { OnOk result ((before : List Placed) (file : ℕ) → IsBehind before self.old → IsBehind
+        ensures behind { OnOk result ((before : List Placed) (file : ℕ) → IsBehind before self.old
+            → IsBehind
             (before ++ placed_in file (item.now ∷ [])) self.new) }
-        ensures names { OnOk result ((before : List Placed) (file : ℕ) → IsBehind before self.old → AreNames
+        ensures names { OnOk result ((before : List Placed) (file : ℕ) → IsBehind before self.old
+            → AreNames
             file before names.old → AreNames file (before ++ placed_in file (item.now ∷ []))
             names.new) }
         ensures kept { OnOk result (KeepsNames self.old self.new) }

@@ -18,7 +18,6 @@ use Rattle.hilti_module.specs.declared.module.Line.TheVariants as lines
 use Rattle.hilti_module.specs.declared.module.Handler.{Handler}
 use Rattle.hilti_module.specs.declared.module.Mnemonic.{Mnemonic}
 use Rattle.hilti_module.specs.declared.module.Operand.{Operand}
-use Rattle.hilti_module.specs.declared.module.Operand.TheVariants as operands
 use Rattle.hilti_reader.specs.Modules.{RuleName.ModuleText as a_module, grammar, reserved_words}
 use Rattle.hilti_reader.specs.Spelled.{ModuleTree, keyword_at, marked_at, word_tree, behind_mark, maybe_tree, name_tree, maybe_word, word_kind, maybe_number}
 use Rattle.hilti_read_types.specs.Trees.{type_tree}

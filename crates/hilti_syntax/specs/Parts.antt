@@ -1,13 +1,11 @@
 -- What stands behind the first words of lines and hooks, by whole lines and items.
 use Rattle.std.specs.Prelude.{Option, Some, None}
-use Rattle.hilti_grammar.specs.Grammar.{Symbol.◌▹◌, Symbol.◌⊕◌, Tree.Nothing, Tree.Right}
-use Rattle.hilti_kinds.specs.declared.kind.Kind.TheVariants as kinds
+use Rattle.hilti_grammar.specs.Grammar.{Tree.Nothing, Tree.Right}
 use Rattle.hilti_module.specs.declared.module.Item.{Item}
 use Rattle.hilti_module.specs.declared.module.Item.TheVariants as items
 use Rattle.hilti_module.specs.declared.types.Number.{Number}
 use Rattle.hilti_module.specs.declared.module.Line.{Line}
 use Rattle.hilti_module.specs.declared.module.Line.TheVariants as lines
-use Rattle.hilti_reader.specs.Modules.{word}
 use Rattle.hilti_reader.specs.Spelled.{ModuleTree}
 use Rattle.hilti_syntax.specs.Items.{behind_hook, hook_tree, instruction_tree, behind_first_word, behind_target, declared_hook}
 use Rattle.hilti_syntax.specs.declared.read_instructions.Instruction.{Instruction}

@@ -1,6 +1,6 @@
 -- What a text is by the lexer and the grammar of modules: a module, or refused at a place with a
 -- code.
-use Rattle.std.specs.Prelude.{◌≡◌, ◌⊎◌, ℕ, List, [], ◌∷◌, Result, Err, IfOk, IsTrue}
+use Rattle.std.specs.Prelude.{◌≡◌, ◌⊎◌, ℕ, List, Result, Err, IfOk, IsTrue}
 use Rattle.hilti_base.specs.declared.names.Place.{Place}
 use Rattle.hilti_lexer.specs.declared.token.Token.{Token}
 use Rattle.hilti_lexer.specs.Readings.{Lexes, Refuses}

@@ -4,7 +4,6 @@ mod Named
 mod PacketCalls
 mod Reading
 mod Running
-mod Settled
 mod Shapes
 mod Typed
 mod Zips

@@ -1,0 +1,4 @@
+pub mod Laws
+pub mod Mnemonics
+pub mod Rows
+pub mod Table
