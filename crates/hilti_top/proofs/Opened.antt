@@ -1,11 +1,12 @@
 -- Files that are opened one after another.
-use Rattle.std.proofs.Common.{◌≡◌, ℕ, suc, ◌+◌, ◌<◌, ◌≤◌, List, [], ◌∷◌, ◌++◌, length, take, drop, get_or, Some, None, sym, ◌∙◌, ap, subst, arith, append_assoc}
+use Rattle.std.proofs.Common.{◌≡◌, ℕ, suc, ◌+◌, ◌<◌, ◌≤◌, List, [], ◌∷◌, ◌++◌, length, map, take, drop, get_or, Option, Some, None, inl, sym, ◌∙◌, ap, subst, arith, append_assoc}
+use Rattle.std.specs.List.{AllByRecursion}
 use Rattle.std.proofs.Math.Seq.{split_at}
 use Rattle.std.proofs.lemmas.List.{append-nil, take_more}
 use Rattle.hilti_base.specs.declared.names.Place.{Place}
-use Rattle.hilti_outside.specs.Contents.{Grows}
+use Rattle.hilti_outside.specs.Contents.{FileMap, Grows, WhereTold, content}
 use Rattle.hilti_outside.proofs.Pieces.{grows_more}
-use Rattle.hilti_top.specs.ModuleTexts.{start_of}
+use Rattle.hilti_top.specs.ModuleTexts.{IsShort, start_of}
 use Rattle.hilti_top.specs.Opening.{Names, OpensFront, OpensRefused, OpensUntil, files_of, modules_of}
 use Rattle.hilti_top.specs.Words.{IsOne}
 
@@ -99,9 +100,18 @@ front_opened before after words capture modules one some = record {
   opened = some.opened;
 }
 
-pub refused_opened : (before after : Names) (words : List (List ℕ)) (capture : List ℕ) (modules : List (List ℕ)) (place : Place) (code : ℕ)
-    → IsOne words capture modules → OpensRefused before after modules place code
-    → OpensRefused before after (modules_of words) place code
-refused_opened before after words capture modules place code one opened =
+-- modules that are refused behind their opening
+pub refused_behind : (files : Option FileMap) (before after : Names) (names texts : List (List ℕ)) (place : Place) (code : ℕ)
+    → Grows before after names → WhereTold files (λ all. texts ≡ map (content all) names) → AllByRecursion IsShort texts
+    → OpensRefused files before after names place code
+refused_behind files before after names texts place code opened told short = inl (record {
+  short = λ all is. subst (λ contents. AllByRecursion IsShort contents) (told all is) short;
+  opened = opened;
+})
+
+pub refused_opened : (files : Option FileMap) (before after : Names) (words : List (List ℕ)) (capture : List ℕ) (modules : List (List ℕ)) (place : Place) (code : ℕ)
+    → IsOne words capture modules → OpensRefused files before after modules place code
+    → OpensRefused files before after (modules_of words) place code
+refused_opened files before after words capture modules place code one opened =
     let named : modules_of words ≡ modules = ap modules_of one.words_are in
-    subst (λ names. OpensRefused before after names place code) (sym named) opened
+    subst (λ names. OpensRefused files before after names place code) (sym named) opened

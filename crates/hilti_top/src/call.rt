@@ -36,7 +36,8 @@ pub fn hilti_call<F: Files, S: Sink>(
     ensures command { result ≢ Status.Usage → IsCommand words.now }
 
     // What is opened.
-    ensures opens { OpensFor result words.now (F.opened files.old) (F.opened files.new) }
+    ensures opens { OpensFor result words.now
+        (F.files files.old) (F.opened files.old) (F.opened files.new) }
 
     // What is refused, and why.
     ensures bad_module { (place : APlace) (code : ℕ) →

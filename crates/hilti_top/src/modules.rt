@@ -193,7 +193,7 @@ pub fn read_modules<F: Files>(
     ensures opened { IfOk result
         (λ lines. Grows (F.opened files.old) (F.opened files.new) names.now) }
     ensures opened_refused { WhereRefused result
-        (OpensRefused (F.opened files.old) (F.opened files.new) names.now) }
+        (OpensRefused (F.files files.old) (F.opened files.old) (F.opened files.new) names.now) }
     ensures opened_front { OpensFront (F.opened files.old) (F.opened files.new) names.now }
     ensures lines { IfOk result (λ lines.
         WhereTold (F.files files.old) (λ all. IsAccepted (map (content all) names.now) lines)) }
