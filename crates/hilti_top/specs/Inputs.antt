@@ -17,7 +17,8 @@ capture_of all words = content all (slice_index_or words 1 [])
 abbrev pub texts_of : FileMap → List (List ℕ) → List (List ℕ)
 texts_of all words = map (content all) (drop 2 words)
 
--- the files, where they are told, are those of modules that are accepted and print these lists of parameters
+-- the files, where they are told, are those of modules that are accepted and print these lists of
+-- parameters
 abbrev pub AreAccepted : Option FileMap → List (List ℕ) → List (List Parameter) → Type 0
 AreAccepted files words lines = WhereTold files (λ all. IsAccepted (texts_of all words) lines)
 

@@ -64,7 +64,8 @@ pub record IsUnlinked (texts : List (List ℕ)) (place : Place) (code : ℕ) : T
   pub are : AreModules texts modules
   pub refused : first_refusal modules ≡ Some (At place code)
 
--- all texts are modules that link, which aren't of the form that runs: the answer is the start of the first, with code 60
+-- all texts are modules that link, which aren't of the form that runs: the answer is the start of
+-- the first, with code 60
 pub record IsNotYet (texts : List (List ℕ)) (place : Place) (code : ℕ) : Type 0 where
   pub modules : List Module
   pub are : AreModules texts modules

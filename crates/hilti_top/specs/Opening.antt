@@ -1,5 +1,6 @@
 -- Which files a command opens: those of its modules in word order, and then that of its capture.
-use Rattle.std.specs.Prelude.{◌≡◌, ◌≢◌, ℕ, suc, List, [], ◌∷◌, ◌++◌, ◌⊎◌, map, take, drop, Option, slice_index_or}
+use Rattle.std.specs.Prelude.{◌≡◌, ◌≢◌, ℕ, suc, List, [], ◌∷◌, ◌++◌, ◌⊎◌, map, take, drop, Option}
+use Rattle.std.specs.Prelude.{slice_index_or}
 use Rattle.std.specs.List.{AllByRecursion}
 use Rattle.hilti_base.specs.declared.names.Place.{Place}
 use Rattle.hilti_outside.specs.Contents.{FileMap, Grows, WhereTold, content}

@@ -1,6 +1,7 @@
--- The one form of modules that runs today: `module Main` alone, whose one item is a function `packet` that prints its
--- parameters and returns.
-use Rattle.std.specs.Prelude.{◌≡◌, ◌≢◌, ℕ, ◌<◌, ◌≤◌, Bool, true, false, List, [], ◌∷◌, ◌++◌, length, codes, None, IsTrue, IsSomeAnd}
+-- The one form of modules that runs today: `module Main` alone, whose one item is a function
+-- `packet` that prints its parameters and returns.
+use Rattle.std.specs.Prelude.{◌≡◌, ◌≢◌, ℕ, ◌<◌, ◌≤◌, Bool, true, false, List, [], ◌∷◌, ◌++◌, length}
+use Rattle.std.specs.Prelude.{codes, None, IsTrue, IsSomeAnd}
 use Rattle.std.specs.List.{AllByRecursion, AllZip}
 use Rattle.hilti_module.specs.declared.types.TypeText.{TypeText}
 use Rattle.hilti_module.specs.declared.types.TypeText.TheVariants as types
@@ -64,8 +65,8 @@ abbrev pub IsReturn : Line → Type 0
 IsReturn (lines.Instruction None mnemonic []) = IsReturnWord mnemonic
 IsReturn _ = ⊥
 
--- Lines are prints of these lists of parameters, and then the return. A call has fuel for fewer than 1,000,000 prints,
--- and a text of at most 1,048,576 bytes has room for no more than 174,762.
+-- Lines are prints of these lists of parameters, and then the return. A call has fuel for fewer
+-- than 1,000,000 prints, and a text of at most 1,048,576 bytes has room for no more than 174,762.
 pub record ArePrints (time bytes : List ℕ) (all : List Line) (printed : List (List Parameter))
     : Type 0 where
   pub prints : List Line
@@ -86,7 +87,8 @@ is_bytes (types.Plain place plain.Bytes) = true
 is_bytes (types.Parametric (parametric.Ref place (inner.Word within plain_inner.Bytes))) = true
 is_bytes _ = false
 
--- a function of this name, of a time and bytes, is `packet`, and its body has no locals and prints these lists
+-- a function of this name, of a time and bytes, is `packet`, and its body has no locals and prints
+-- these lists
 pub record IsPacket
     (name : Word) (time bytes : Declared) (body : Body) (printed : List (List Parameter))
     : Type 0 where

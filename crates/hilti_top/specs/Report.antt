@@ -1,4 +1,5 @@
--- The report of a run whose calls are those of `packet`, one for each packet of the capture, on thread 0.
+-- The report of a run whose calls are those of `packet`, one for each packet of the capture, on
+-- thread 0.
 use Rattle.std.specs.Prelude.{ℕ, List, [], ◌∷◌, ◌++◌, length, codes}
 use Rattle.std.specs.Fmt.{decimal}
 use Rattle.std.specs.List.{flat_map, join_by}

@@ -2,7 +2,8 @@
 use Rattle.std.specs.Prelude.{ℕ, List, [], ◌++◌, codes}
 use Rattle.std.specs.Fmt.{decimal}
 use Rattle.hilti_top.specs.declared.status.Status.{Status}
-use Rattle.hilti_top.specs.declared.status.Status.TheVariants.{Done, Usage, ReadFault, BadModule, BadCapture, WriteFault, NoMemory}
+use Rattle.hilti_top.specs.declared.status.Status.TheVariants.{Done, Usage, ReadFault, BadModule}
+use Rattle.hilti_top.specs.declared.status.Status.TheVariants.{BadCapture, WriteFault, NoMemory}
 
 abbrev pub number_of : Status → ℕ
 number_of Done = 0

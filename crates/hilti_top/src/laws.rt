@@ -4,7 +4,8 @@ ghost use Rattle.std.specs.List.{AllByRecursion};
 ghost use Rattle.hilti_base.specs.declared.names.Place.{Place};
 ghost use Rattle.hilti_module.specs.declared.module.Module.{Module};
 ghost use Rattle.hilti_top.specs.declared.printing.Parameter.{Parameter};
-ghost use Rattle.hilti_top.specs.ModuleTexts.{AreModules, IsAccepted, IsRefused, IsShort, IsTooLong, IsUnread};
+ghost use Rattle.hilti_top.specs.ModuleTexts.{AreModules, IsAccepted, IsRefused, IsShort};
+ghost use Rattle.hilti_top.specs.ModuleTexts.{IsTooLong, IsUnread};
 ghost use Rattle.hilti_top.specs.Printing.{Prints};
 
 /// Modules print one list of lines at most.

@@ -3,7 +3,10 @@ ghost use Rattle.std.specs.Prelude.{◌≡◌, ◌↔◌, ◌<◌, List, IsTrue,
 ghost use Rattle.std.specs.List.{AllZip};
 ghost use Rattle.hilti_top.specs.declared.printing.Parameter.{Parameter as APrinted};
 ghost use Rattle.hilti_top.specs.Absence.{Finds, NoneIs};
-ghost use Rattle.hilti_top.specs.Printing.{AreOperands, ArePrintLines, ArePrints, IsMain, IsNameOf, IsOperand, IsPacket, IsPacketItem, IsPrint, IsPrintWord, IsReturn, IsReturnWord, Prints, is_bytes as bytes_kind, is_time as time_kind};
+ghost use Rattle.hilti_top.specs.Printing.{AreOperands, ArePrintLines, ArePrints, IsMain, IsNameOf};
+ghost use Rattle.hilti_top.specs.Printing.{IsOperand, IsPacket, IsPacketItem, IsPrint, IsPrintWord};
+ghost use Rattle.hilti_top.specs.Printing.{IsReturn, IsReturnWord, Prints, is_bytes as bytes_kind};
+ghost use Rattle.hilti_top.specs.Printing.{is_time as time_kind};
 
 use hilti_base::{Collection, NoMemory};
 use hilti_module::{
