@@ -26,7 +26,8 @@ abbrev pub PlacesRise : Type 0
 PlacesRise = (file : ℕ) (text : List ℕ) (m : Module) →
     TextIsModule file text m → Rise file (tree_places (module_tree m))
 
--- they are those of its name and of its items, one item behind another
+-- the places in the tree of a module are those of its name and then those of its items, one item
+-- behind another
 abbrev pub ItemsInTurn : Type 0
 ItemsInTurn = (m : Module) →
     tree_places (module_tree m) ≡ m.name.place ∷ flat_map item_places m.items
@@ -43,7 +44,7 @@ ItemsApart =
 abbrev pub NameKept : Type 0
 NameKept = (item : Item) → Contains (item_places item) (name_place item)
 
--- the places of the names of a module and of its items rise
+-- the places of the name of a module and of the names of its items rise
 abbrev pub NamesRise : Type 0
 NamesRise = (file : ℕ) (text : List ℕ) (m : Module) →
     TextIsModule file text m → Rise file (m.name.place ∷ map name_place m.items)

@@ -46,7 +46,7 @@ tree_places tree = places_of (kept_tokens tree)
 abbrev pub item_places : Item → List Place
 item_places item = tree_places (item_tree item)
 
--- the word that names an item; of the body of another module's hook, the name of that module
+-- the word that names an item: of a hook's body, the first word of the hook's name
 abbrev pub name_word : Item → Word
 name_word (items.Type name shape) = name
 name_word (items.Global kind name value) = name

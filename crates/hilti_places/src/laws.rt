@@ -42,7 +42,7 @@ pub fn name_kept()
     ensures { NameKept }
 {}
 
-/// The places of the names of a module and of its items rise.
+/// The places of the name of a module and of the names of its items rise.
 pub fn names_rise()
     ensures { NamesRise }
 {}
