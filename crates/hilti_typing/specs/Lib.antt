@@ -1,0 +1,5 @@
+pub mod Context
+pub mod Facts
+pub mod Fits
+pub mod Laws
+pub mod Types
