@@ -1,31 +1,38 @@
 -- From operands that fit to what instructions meet.
-use Rattle.std.proofs.Common.{◌≡◌, ◌∙◌, ℕ, Bool, true, false, IsTrue, List, [], ◌∷◌, sym, refl, ap, Option, Some, None}
+use Rattle.std.proofs.Common.{◌≡◌, Bool, true, false, IsTrue, List, [], ◌∷◌, refl, Option, Some}
+use Rattle.std.proofs.Common.{None}
 use Rattle.std.specs.Option.{option_and_then}
-use Rattle.std.specs.Prelude.{IsSomeAnd, IfSome}
+use Rattle.std.specs.Prelude.{IsSomeAnd, replicate, length}
+use Rattle.std.specs.List.{All}
+use Rattle.std.proofs.lemmas.List.Elements.{All-nil, All-cons}
+use Rattle.hilti_types.specs.Keys.{IsKey}
+use Rattle.hilti_table.specs.declared.row.Plain.TheVariants as plain
 use Rattle.std.proofs.lemmas.Bool.{false≢true}
 use Rattle.hilti_types.specs.declared.value_type.Inner.{Inner, out-Inner}
 use Rattle.hilti_types.specs.declared.value_type.ValueType.{ValueType}
-use Rattle.hilti_types.specs.declared.value_type.ValueType.TheVariants as types
 use Rattle.hilti_types.specs.declared.value_type.Inner.TheOpen.{Inner-F}
-use Rattle.hilti_types.specs.declared.op.Op.TheVariants as ops
 use Rattle.hilti_table.specs.declared.row.Callee.TheVariants as callees
 use Rattle.hilti_table.specs.declared.row.Family.TheVariants as families
 use Rattle.hilti_table.specs.declared.row.Gives.{Gives}
 use Rattle.hilti_table.specs.declared.row.Gives.TheVariants as gives
-use Rattle.hilti_table.specs.declared.row.Kind.{Kind}
-use Rattle.hilti_table.specs.declared.row.Kind.TheVariants.{Fixed, Sized, Own, Part, Function, Arguments}
+use Rattle.hilti_table.specs.declared.row.Kind.TheVariants.{Fixed, Sized, Own, Part, Same, Label}
+use Rattle.hilti_table.specs.declared.row.Kind.TheVariants.{Returned, Function, Arguments}
 use Rattle.hilti_table.specs.declared.row.Part.TheVariants as parts
 use Rattle.hilti_table.specs.declared.row.Plain.{Plain}
-use Rattle.hilti_table.specs.declared.row.Takes.TheVariants as takes
 use Rattle.hilti_table.specs.declared.row.Test.TheVariants as tests
 use Rattle.hilti_program.specs.declared.parts.Operand.{Operand}
 use Rattle.hilti_program.specs.Givens.{given_kind}
-use Rattle.hilti_program.specs.Rows.{grouped, named_function}
+use Rattle.hilti_program.specs.Rows.{grouped}
 use Rattle.hilti_typing.specs.Context.{Signature, Context, Setting, Known}
-use Rattle.hilti_typing.specs.Types.{plain_type, object_of, is_object, in_family, part_of, part_of_shape}
-use Rattle.hilti_typing.specs.Fits.{IsSound, Has, HasKnown, HaveAll, MayTake, MayBe, Gets, Fit, AsksOwn, AsksArguments, knowing, calling, known_part, called_result, callee}
-use Rattle.hilti_typing.specs.Facts.{OneValue, TwoValues, ThreeValues, TwoNumbers, ListAndItem, FunctionAndArguments}
-use Rattle.hilti_typing.specs.Laws.{PlainRows, NumberRows, ListRows, CallRow}
+use Rattle.hilti_typing.specs.Types.{plain_type, object_of, is_object, in_family, part_of}
+use Rattle.hilti_typing.specs.Types.{part_of_shape}
+use Rattle.hilti_typing.specs.Fits.{IsSound, Has, HasKnown, HaveAll, MayTake, MayBe, Gets, Fit}
+use Rattle.hilti_typing.specs.Fits.{AsksOwn, AsksArguments, knowing, calling, known_part}
+use Rattle.hilti_typing.specs.Fits.{known_type, called_result, callee}
+use Rattle.hilti_typing.specs.Facts.{OneValue, TwoValues, ThreeValues, TwoNumbers, ListAndItem}
+use Rattle.hilti_typing.specs.Facts.{FunctionAndArguments, TwoKeys, OneBlock, TruthAndBlocks}
+use Rattle.hilti_typing.specs.Facts.{ResultValue}
+use Rattle.hilti_typing.specs.Laws.{PlainRows, NumberRows, ListRows, KeyRows, FlowRows}
 
 one_value : (s : Setting) (g : Gives) (a : Plain) (items : List Operand) → Fit s g (Fixed a ∷ []) Known.Nothing items →
     OneValue s (plain_type a) items × Gets s g Known.Nothing
@@ -119,5 +126,51 @@ function_and_arguments s (a ∷ []) fit = absurd fit.1
 function_and_arguments s (a ∷ x ∷ []) fit = calls_at s a x (callee s.context a) refl fit.0 fit.1.0 fit.1.1
 function_and_arguments s (a ∷ x ∷ y ∷ more) fit = absurd fit.1.1
 
-pub call_row : CallRow
-call_row s items fits = function_and_arguments s items fits.fit
+two_keys_of : (s : Setting) (a x : Operand) (t : Option ValueType) → given_kind a ≡ t → IsSound s.context a → IsSomeAnd t (IsKey s.context.declared)
+    → HasKnown s.context (known_type (knowing t)) x → TwoKeys s (a ∷ x ∷ [])
+two_keys_of s a x None e sound is has = absurd is
+two_keys_of s a x (Some t) e sound is has =
+    record { first = a; second = x; key_type = t; are = refl; is_key = is; first_is = record { sound = sound; of_type = e }; second_is = has }
+
+two_keys : (s : Setting) (g : Gives) (items : List Operand) → Fit s g (Own tests.Key ∷ Same ∷ []) Known.Nothing items → TwoKeys s items
+unfolding Fit
+two_keys s g [] fit = absurd fit
+two_keys s g (a ∷ []) fit = absurd fit.1
+two_keys s g (a ∷ x ∷ []) fit = two_keys_of s a x (given_kind a) refl fit.0.0 fit.0.1 fit.1.0
+two_keys s g (a ∷ x ∷ y ∷ more) fit = absurd fit.1.1
+
+pub key_rows : KeyRows
+key_rows = record { equal = λ s items fits. two_keys s _ items fits.fit; less = λ s items fits. two_keys s _ items fits.fit }
+
+one_block : (s : Setting) (g : Gives) (items : List Operand) → Fit s g (Label ∷ []) Known.Nothing items → OneBlock s items
+unfolding Fit
+one_block s g [] fit = absurd fit
+one_block s g (a ∷ []) fit = record { block = a; are = refl; named = fit.0 }
+one_block s g (a ∷ x ∷ more) fit = absurd fit.1
+
+truth_and_blocks : (s : Setting) (g : Gives) (items : List Operand) → Fit s g (Fixed plain.Bool ∷ Label ∷ Label ∷ []) Known.Nothing items → TruthAndBlocks s items
+unfolding Fit
+truth_and_blocks s g [] fit = absurd fit
+truth_and_blocks s g (a ∷ []) fit = absurd fit.1
+truth_and_blocks s g (a ∷ x ∷ []) fit = absurd fit.1.1
+truth_and_blocks s g (a ∷ x ∷ y ∷ []) fit =
+    record { test = a; first = x; second = y; are = refl; test_is = fit.0; first_named = fit.1.0; second_named = fit.1.1.0 }
+truth_and_blocks s g (a ∷ x ∷ y ∷ z ∷ more) fit = absurd fit.1.1.1
+
+result_of : (s : Setting) (a : Operand) (t : Option ValueType) → s.context.result ≡ t → HasKnown s.context t a → ResultValue s (a ∷ [])
+result_of s a None e has = absurd has
+result_of s a (Some t) e has = record { value = a; result_type = t; are = refl; result = e; value_is = has }
+
+result_value : (s : Setting) (g : Gives) (items : List Operand) → Fit s g (Returned ∷ []) Known.Nothing items → ResultValue s items
+unfolding Fit
+result_value s g [] fit = absurd fit
+result_value s g (a ∷ []) fit = result_of s a s.context.result refl fit.0
+result_value s g (a ∷ x ∷ more) fit = absurd fit.1
+
+pub flow_rows : FlowRows
+flow_rows = record {
+    jump = λ s items fits. one_block s _ items fits.fit;
+    if_else = λ s items fits. truth_and_blocks s _ items fits.fit;
+    return_result = λ s items fits. result_value s _ items fits.fit;
+    call = λ s items fits. function_and_arguments s items fits.fit
+}

@@ -1,5 +1,5 @@
 -- What the lines of a function or a hook body are typed in.
-use Rattle.std.specs.Prelude.{ℕ, Bool, List, Option, Some, None, slice_get}
+use Rattle.std.specs.Prelude.{ℕ, Bool, List, Option, slice_get}
 use Rattle.hilti_types.specs.declared.declared.Declared.{Declared}
 use Rattle.hilti_types.specs.declared.declared.OverlayField.{OverlayField}
 use Rattle.hilti_types.specs.declared.value_type.ValueType.{ValueType}
@@ -11,8 +11,9 @@ pub record Signature : Type 0 where
   pub parameters : List ValueType
   pub result : Option ValueType
 
--- what a body can name, by its place: declared types, globals by their types, functions and hooks by their
--- signatures, so many exceptions, the slots of the body by their types, and so many blocks; and what body it is
+-- what a body can name, by its place: declared types, globals by their types, functions and hooks
+-- by their signatures, so many exceptions, the slots of the body by their types, and so many
+-- blocks; and what body it is
 pub record Context : Type 0 where
   pub declared : List Declared
   pub globals : List ValueType

@@ -1,14 +1,17 @@
 -- What instructions meet where their operands and targets fit, by the shape of their rows.
-use Rattle.std.specs.Prelude.{◌≡◌, List, [], ◌∷◌, Option, Some, None}
+use Rattle.std.specs.Prelude.{◌≡◌, ◌<◌, ◌≤◌, List, [], ◌∷◌, length, Some, IsSomeAnd}
+use Rattle.std.specs.List.{All}
 use Rattle.hilti_types.specs.declared.value_type.Inner.{Inner, out-Inner}
 use Rattle.hilti_types.specs.declared.value_type.ValueType.{ValueType}
 use Rattle.hilti_types.specs.declared.value_type.ValueType.TheVariants as types
 use Rattle.hilti_types.specs.declared.value_type.Inner.TheOpen.{Inner-F}
+use Rattle.hilti_types.specs.Keys.{IsKey}
+use Rattle.hilti_table.specs.declared.row.Test.TheVariants as tests
 use Rattle.hilti_program.specs.declared.parts.Operand.{Operand}
-use Rattle.hilti_program.specs.Rows.{grouped}
+use Rattle.hilti_program.specs.Rows.{grouped, named_block}
 use Rattle.hilti_typing.specs.Context.{Signature, Setting}
 use Rattle.hilti_typing.specs.Types.{object_of}
-use Rattle.hilti_typing.specs.Fits.{Has, HaveAll, MayTake, callee}
+use Rattle.hilti_typing.specs.Fits.{Has, HaveAll, AsksOwn, MayTake, callee}
 
 -- one value of a type
 pub record OneValue (s : Setting) (t : ValueType) (items : List Operand) : Type 0 where
@@ -62,3 +65,41 @@ pub record FunctionAndArguments (s : Setting) (items : List Operand) : Type 0 wh
   pub groups : grouped group ≡ Some arguments
   pub arguments_are : HaveAll s.context function.parameters arguments
   pub result : MayTake s.target function.result
+
+-- two values of one key type
+pub record TwoKeys (s : Setting) (items : List Operand) : Type 0 where
+  pub first : Operand
+  pub second : Operand
+  pub key_type : ValueType
+  pub are : items ≡ first ∷ second ∷ []
+  pub is_key : IsKey s.context.declared key_type
+  pub first_is : Has s.context key_type first
+  pub second_is : Has s.context key_type second
+
+-- an operand that names a block
+abbrev pub NamesBlock : Setting → Operand → Type 0
+NamesBlock s x = IsSomeAnd (named_block x) (λ n. n < s.context.blocks)
+
+-- one block
+pub record OneBlock (s : Setting) (items : List Operand) : Type 0 where
+  pub block : Operand
+  pub are : items ≡ block ∷ []
+  pub named : NamesBlock s block
+
+-- a truth value, and two blocks
+pub record TruthAndBlocks (s : Setting) (items : List Operand) : Type 0 where
+  pub test : Operand
+  pub first : Operand
+  pub second : Operand
+  pub are : items ≡ test ∷ first ∷ second ∷ []
+  pub test_is : Has s.context types.Bool test
+  pub first_named : NamesBlock s first
+  pub second_named : NamesBlock s second
+
+-- a value of the type of the body's result
+pub record ResultValue (s : Setting) (items : List Operand) : Type 0 where
+  pub value : Operand
+  pub result_type : ValueType
+  pub are : items ≡ value ∷ []
+  pub result : s.context.result ≡ Some result_type
+  pub value_is : Has s.context result_type value

@@ -1,5 +1,7 @@
 -- What operands and a target fit a row of the table.
-use Rattle.std.specs.Prelude.{◌≡◌, ℕ, ◌<◌, ◌≤◌, ◌^◌, nat_lt, Bool, true, false, IsTrue, List, [], ◌∷◌, length, map, slice_get, Option, Some, None, IfSome, IsSome, IsSomeAnd}
+use Rattle.std.specs.Prelude.{◌≡◌, ℕ, ◌<◌, ◌≤◌, ◌^◌, nat_lt, Bool, true, false, IsTrue, List, []}
+use Rattle.std.specs.Prelude.{◌∷◌, length, map, slice_get, Option, Some, None, IfSome, IsSome}
+use Rattle.std.specs.Prelude.{IsSomeAnd}
 use Rattle.std.specs.List.{All, AllZip}
 use Rattle.std.specs.Option.{option_map, option_or, option_and_then, unwrap_or}
 use Rattle.hilti_types.specs.declared.declared.Declared.{Declared}
@@ -33,7 +35,9 @@ use Rattle.hilti_program.specs.declared.parts.Operand.TheVariants as operands
 use Rattle.hilti_program.specs.Givens.{given_kind}
 use Rattle.hilti_program.specs.Rows.{named_block, named_function, grouped}
 use Rattle.hilti_typing.specs.Context.{Signature, Context, Setting, Known, variable_type}
-use Rattle.hilti_typing.specs.Types.{plain_type, passes, may_be_null, is_int, object_of, iterated, part_of, item_of, parts_of, rule_of, asked_for, can_be_made, overlay_fields, fields_of}
+use Rattle.hilti_typing.specs.Types.{plain_type, passes, may_be_null, is_int, object_of, iterated}
+use Rattle.hilti_typing.specs.Types.{part_of, item_of, parts_of, rule_of, asked_for, can_be_made}
+use Rattle.hilti_typing.specs.Types.{overlay_fields, fields_of}
 
 abbrev pub is_wide : ℕ → ValueType → Bool
 is_wide n (types.Int bits) = nat_lt n (2 ^ bits)
@@ -145,7 +149,8 @@ abbrev pub hook : Context → Operand → Option Signature
 hook c x = option_and_then (λ (n : ℕ). slice_get c.hooks n) (hook_number x)
 
 abbrev pub overlay : Context → Operand → Option (List OverlayField)
-overlay c x = option_and_then (λ (n : ℕ). overlay_fields (slice_get c.declared n)) (overlay_number x)
+overlay c x =
+    option_and_then (λ (n : ℕ). overlay_fields (slice_get c.declared n)) (overlay_number x)
 
 -- the type of the field of a struct or an overlay, or of the part of a tuple
 abbrev pub field_type : Context → Inner → ℕ → Option ValueType
@@ -302,7 +307,8 @@ pub record FitsRow (s : Setting) (row : Row) (items : List Operand) : Type 0 whe
   pub fit : Fit s row.gives (kinds row.takes (length items)) Known.Nothing items
   pub stands : Stands s.context row.flow
 
--- the width of a line's numbers: that of its first operand that is a variable of an int type, else of its target, else 64
+-- the width of a line's numbers: that of its first operand that is a variable of an int type,
+-- else of its target, else 64
 abbrev pub int_width : Option ValueType → Option ℕ
 int_width (Some (types.Int bits)) = Some bits
 int_width _ = None
@@ -321,6 +327,6 @@ width_of target items = unwrap_or (option_or (first_width items) (int_width targ
 abbrev pub setting : Context → Option ValueType → List Operand → Setting
 setting c target items = record { context = c; target = target; width = width_of target items }
 
--- a line of a body that is typed: its operands and the type of its target fit the row of its mnemonic
+-- a typed line of a body: its operands and the type of its target fit the row of its mnemonic
 abbrev pub IsTypedLine : Context → Op → Option ValueType → List Operand → Type 0
 IsTypedLine c op target items = FitsRow (setting c target items) (line_of op).row items

@@ -1,5 +1,5 @@
 -- Types that rows name, what rows ask of types, and the parts of types.
-use Rattle.std.specs.Prelude.{◌≡◌, ℕ, ◌<◌, ◌^◌, nat_lt, Bool, true, false, IsTrue, List, [], ◌∷◌, length, Option, Some, None, slice_get}
+use Rattle.std.specs.Prelude.{Bool, true, false, List, [], ◌∷◌, Option, Some, None, slice_get}
 use Rattle.hilti_types.specs.declared.declared.Declared.{Declared}
 use Rattle.hilti_types.specs.declared.declared.Declared.TheVariants as declared
 use Rattle.hilti_types.specs.declared.declared.Member.{Member}
