@@ -1,1 +1,5 @@
+pub mod Calls
 pub mod Meeting
+pub mod Objects
+pub mod Records
+pub mod Shapes

@@ -1,62 +1,63 @@
--- From operands that fit to what instructions meet.
-use Rattle.std.proofs.Common.{◌≡◌, Bool, true, false, IsTrue, List, [], ◌∷◌, refl, Option, Some}
-use Rattle.std.proofs.Common.{None}
-use Rattle.std.specs.Option.{option_and_then}
-use Rattle.std.specs.Prelude.{IsSomeAnd, replicate, length}
-use Rattle.std.specs.List.{All}
+-- From operands that fit to what lines meet.
+use Rattle.std.proofs.Common.{◌≡◌, ℕ, ◌≤◌, Bool, true, false, IsTrue, List, [], ◌∷◌, refl, sym, ap, ◌∙◌, map, replicate, length}
+use Rattle.std.proofs.Common.{Option, Some, None, All, IsSomeAnd}
+use Rattle.std.specs.Option.{option_and_then, option_map}
 use Rattle.std.proofs.lemmas.List.Elements.{All-nil, All-cons}
-use Rattle.hilti_types.specs.Keys.{IsKey}
-use Rattle.hilti_table.specs.declared.row.Plain.TheVariants as plain
-use Rattle.std.proofs.lemmas.Bool.{false≢true}
-use Rattle.hilti_types.specs.declared.value_type.Inner.{Inner, out-Inner}
+use Rattle.std.proofs.Math.Path.{subst}
+use Rattle.hilti_types.specs.declared.value_type.Inner.{Inner}
 use Rattle.hilti_types.specs.declared.value_type.ValueType.{ValueType}
-use Rattle.hilti_types.specs.declared.value_type.Inner.TheOpen.{Inner-F}
-use Rattle.hilti_table.specs.declared.row.Callee.TheVariants as callees
-use Rattle.hilti_table.specs.declared.row.Family.TheVariants as families
+use Rattle.hilti_types.specs.declared.value_type.ValueType.TheVariants as types
+use Rattle.hilti_table.specs.declared.row.Callee.{Callee}
+use Rattle.hilti_table.specs.declared.row.Family.{Family}
 use Rattle.hilti_table.specs.declared.row.Gives.{Gives}
 use Rattle.hilti_table.specs.declared.row.Gives.TheVariants as gives
+use Rattle.hilti_table.specs.declared.row.Kind.{Kind}
 use Rattle.hilti_table.specs.declared.row.Kind.TheVariants.{Fixed, Sized, Own, Part, Same, Label}
-use Rattle.hilti_table.specs.declared.row.Kind.TheVariants.{Returned, Function, Arguments}
+use Rattle.hilti_table.specs.declared.row.Kind.TheVariants.{Returned, Function, Hook, Arguments, Sent, Exception, New, Mode, Parts}
+use Rattle.hilti_table.specs.declared.row.Part.{Part as PartOf}
 use Rattle.hilti_table.specs.declared.row.Part.TheVariants as parts
 use Rattle.hilti_table.specs.declared.row.Plain.{Plain}
+use Rattle.hilti_table.specs.declared.row.Test.{Test}
 use Rattle.hilti_table.specs.declared.row.Test.TheVariants as tests
 use Rattle.hilti_program.specs.declared.parts.Operand.{Operand}
 use Rattle.hilti_program.specs.Givens.{given_kind}
 use Rattle.hilti_program.specs.Rows.{grouped}
 use Rattle.hilti_typing.specs.Context.{Signature, Context, Setting, Known}
-use Rattle.hilti_typing.specs.Types.{plain_type, object_of, is_object, in_family, part_of}
-use Rattle.hilti_typing.specs.Types.{part_of_shape}
-use Rattle.hilti_typing.specs.Fits.{IsSound, Has, HasKnown, HaveAll, MayTake, MayBe, Gets, Fit}
-use Rattle.hilti_typing.specs.Fits.{AsksOwn, AsksArguments, knowing, calling, known_part}
-use Rattle.hilti_typing.specs.Fits.{known_type, called_result, callee}
-use Rattle.hilti_typing.specs.Facts.{OneValue, TwoValues, ThreeValues, TwoNumbers, ListAndItem}
-use Rattle.hilti_typing.specs.Facts.{FunctionAndArguments, TwoKeys, OneBlock, TruthAndBlocks}
-use Rattle.hilti_typing.specs.Facts.{ResultValue}
-use Rattle.hilti_typing.specs.Laws.{PlainRows, NumberRows, ListRows, KeyRows, FlowRows}
+use Rattle.hilti_typing.specs.Types.{plain_type, passes}
+use Rattle.hilti_typing.specs.Fits.{IsSound, Has, HasKnown, HaveAll, Needs, MayBe, Gets, Fit, AsksOwn, AsksArguments, AsksSent, AreParts}
+use Rattle.hilti_typing.specs.Fits.{knowing, calling, known_type, callee, hook, made, tuple_type, given}
+use Rattle.hilti_typing.specs.Facts.{Passes, TwoNumbers, SomeValues, OneBlock, ValueAndBlocks, ResultValue, ExceptionAndValue}
+use Rattle.hilti_typing.specs.Facts.{MadeObject, Calling, CalledWith, SentWith, TupleParts}
+use Rattle.hilti_typing.specs.Laws.{PlainRows, NumberRows, OwnRows, FlowRows, CallRows}
+
+-- values of plain types
+no_value : (s : Setting) (g : Gives) (items : List Operand) → Fit s g [] Known.Nothing items → (items ≡ []) × Gets s g Known.Nothing
+unfolding Fit
+no_value s g [] fit = (refl, fit)
+no_value s g (x ∷ more) fit = absurd fit
 
 one_value : (s : Setting) (g : Gives) (a : Plain) (items : List Operand) → Fit s g (Fixed a ∷ []) Known.Nothing items →
-    OneValue s (plain_type a) items × Gets s g Known.Nothing
+    HaveAll s.context (plain_type a ∷ []) items × Gets s g Known.Nothing
 unfolding Fit
 one_value s g a [] fit = absurd fit
-one_value s g a (x ∷ []) fit = (record { first = x; are = refl; first_is = fit.0 }, fit.1)
+one_value s g a (x ∷ []) fit = ((fit.0, tt), fit.1)
 one_value s g a (x ∷ y ∷ more) fit = absurd fit.1
 
 two_values : (s : Setting) (g : Gives) (a b : Plain) (items : List Operand) → Fit s g (Fixed a ∷ Fixed b ∷ []) Known.Nothing items →
-    TwoValues s (plain_type a) (plain_type b) items × Gets s g Known.Nothing
+    HaveAll s.context (plain_type a ∷ plain_type b ∷ []) items × Gets s g Known.Nothing
 unfolding Fit
 two_values s g a b [] fit = absurd fit
 two_values s g a b (x ∷ []) fit = absurd fit.1
-two_values s g a b (x ∷ y ∷ []) fit = (record { first = x; second = y; are = refl; first_is = fit.0; second_is = fit.1.0 }, fit.1.1)
+two_values s g a b (x ∷ y ∷ []) fit = ((fit.0, (fit.1.0, tt)), fit.1.1)
 two_values s g a b (x ∷ y ∷ z ∷ more) fit = absurd fit.1.1
 
 three_values : (s : Setting) (g : Gives) (a b c : Plain) (items : List Operand) → Fit s g (Fixed a ∷ Fixed b ∷ Fixed c ∷ []) Known.Nothing items →
-    ThreeValues s (plain_type a) (plain_type b) (plain_type c) items × Gets s g Known.Nothing
+    HaveAll s.context (plain_type a ∷ plain_type b ∷ plain_type c ∷ []) items × Gets s g Known.Nothing
 unfolding Fit
 three_values s g a b c [] fit = absurd fit
 three_values s g a b c (x ∷ []) fit = absurd fit.1
 three_values s g a b c (x ∷ y ∷ []) fit = absurd fit.1.1
-three_values s g a b c (x ∷ y ∷ z ∷ []) fit =
-    (record { first = x; second = y; third = z; are = refl; first_is = fit.0; second_is = fit.1.0; third_is = fit.1.1.0 }, fit.1.1.1)
+three_values s g a b c (x ∷ y ∷ z ∷ []) fit = ((fit.0, (fit.1.0, (fit.1.1.0, tt))), fit.1.1.1)
 three_values s g a b c (x ∷ y ∷ z ∷ w ∷ more) fit = absurd fit.1.1.1
 
 two_numbers : (s : Setting) (g : Gives) (items : List Operand) → Fit s g (Sized ∷ Sized ∷ []) Known.Nothing items →
@@ -64,11 +65,12 @@ two_numbers : (s : Setting) (g : Gives) (items : List Operand) → Fit s g (Size
 unfolding Fit
 two_numbers s g [] fit = absurd fit
 two_numbers s g (x ∷ []) fit = absurd fit.1
-two_numbers s g (x ∷ y ∷ []) fit = (record { first = x; second = y; are = refl; first_is = fit.0; second_is = fit.1.0 }, fit.1.1)
+two_numbers s g (x ∷ y ∷ []) fit = ((fit.0, (fit.1.0, tt)), fit.1.1)
 two_numbers s g (x ∷ y ∷ z ∷ more) fit = absurd fit.1.1
 
 pub plain_rows : PlainRows
 plain_rows = record {
+    none = λ s g r f items fits. no_value s g items fits.fit;
     one = λ a s g r f items fits. one_value s g a items fits.fit;
     two = λ a b s g r f items fits. two_values s g a b items fits.fit;
     three = λ a b c s g r f items fits. three_values s g a b c items fits.fit
@@ -77,100 +79,100 @@ plain_rows = record {
 pub number_rows : NumberRows
 number_rows s g r f items fits = two_numbers s g items fits.fit
 
-item_in : (c : Context) (x : Operand) (shape : Inner-F Inner ValueType) → IsTrue (in_family families.List shape) → HasKnown c (part_of_shape parts.First shape) x
-    → (t : ValueType) × (shape ≡ Inner-F.List t) × Has c t x
-item_in c x (Inner-F.List item) is has = (item, refl, has)
-item_in c x Inner-F.Timer is has = absurd (false≢true is)
-item_in c x Inner-F.Manager is has = absurd (false≢true is)
-item_in c x (Inner-F.Struct n) is has = absurd (false≢true is)
-item_in c x (Inner-F.Vector item) is has = absurd (false≢true is)
-item_in c x (Inner-F.Set item) is has = absurd (false≢true is)
-item_in c x (Inner-F.Map key value) is has = absurd (false≢true is)
-item_in c x (Inner-F.Classifier rule value) is has = absurd (false≢true is)
+-- the type of a value that passes a test is known behind it
+own_of : (s : Setting) (test : Test) (x : Operand) (kind : Option ValueType) (rest : Known → Type 0) → given_kind x ≡ kind → IsSound s.context x →
+    IsSomeAnd kind (λ t. Passes s test t) → rest (knowing kind) → (t : ValueType) × Passes s test t × Has s.context t x × rest (Known.Of t)
+own_of s test x None rest e sound is more = absurd is
+own_of s test x (Some t) rest e sound is more = (t, is, record { sound = sound; of_type = e }, more)
 
-listed : (c : Context) (x : Operand) (object : Option Inner) → IsTrue (is_object families.List object) → HasKnown c (option_and_then (part_of parts.First) object) x
-    → (o : Inner) × (t : ValueType) × (object ≡ Some o) × (out-Inner o ≡ Inner-F.List t) × Has c t x
-listed c x None is has = absurd (false≢true is)
-listed c x (Some o) is has = let it = item_in c x (out-Inner o) is has in (o, it.0, refl, it.1, it.2)
+pub own : (s : Setting) (test : Test) (x : Operand) (rest : Known → Type 0) → AsksOwn s.context test x → rest (knowing (given_kind x)) →
+    (t : ValueType) × Passes s test t × Has s.context t x × rest (Known.Of t)
+own s test x rest asks more = own_of s test x (given_kind x) rest refl asks.0 asks.1 more
 
-appended : (s : Setting) (a x : Operand) (kind : Option ValueType) → given_kind a ≡ kind → IsSound s.context a → IsSomeAnd kind (λ t. IsTrue (is_object families.List (object_of t)))
-    → HasKnown s.context (known_part parts.First (knowing kind)) x → ListAndItem s (a ∷ x ∷ [])
-appended s a x None e sound is has = absurd is
-appended s a x (Some t) e sound is has = let it = listed s.context x (object_of t) is has in
-    record { list = a; item = x; list_type = t; object = it.0; item_type = it.1; are = refl; list_is = record { sound = sound; of_type = e }; refers = it.2; lists = it.3; item_is = it.4 }
-
-list_and_item : (s : Setting) (items : List Operand) → Fit s gives.Nothing (Own (tests.Object families.List) ∷ Part parts.First ∷ []) Known.Nothing items → ListAndItem s items
+own_one : (s : Setting) (g : Gives) (test : Test) (items : List Operand) → Fit s g (Own test ∷ []) Known.Nothing items →
+    (t : ValueType) × Passes s test t × HaveAll s.context (t ∷ []) items × Gets s g (Known.Of t)
 unfolding Fit
-list_and_item s [] fit = absurd fit
-list_and_item s (a ∷ []) fit = absurd fit.1
-list_and_item s (a ∷ x ∷ []) fit = appended s a x (given_kind a) refl fit.0.0 fit.0.1 fit.1.0
-list_and_item s (a ∷ x ∷ y ∷ more) fit = absurd fit.1.1
+own_one s g test [] fit = absurd fit
+own_one s g test (x ∷ []) fit = let it = own s test x (λ k. Gets s g k) fit.0 fit.1 in (it.0, it.1, (it.2, tt), it.3)
+own_one s g test (x ∷ y ∷ more) fit = absurd fit.1
 
-pub list_rows : ListRows
-list_rows = record { append = λ s items fits. list_and_item s items fits.fit; push_front = λ s items fits. list_and_item s items fits.fit }
-
-grouping : (s : Setting) (f : Signature) (a x : Operand) (group : Option (List Operand)) → callee s.context a ≡ Some f → grouped x ≡ group → IsSomeAnd group (HaveAll s.context f.parameters)
-    → MayTake s.target f.result → FunctionAndArguments s (a ∷ x ∷ [])
-grouping s f a x None c g all r = absurd all
-grouping s f a x (Some items) c g all r = record { called = a; group = x; function = f; arguments = items; are = refl; calls = c; groups = g; arguments_are = all; result = r }
-
-calls_at : (s : Setting) (a x : Operand) (found : Option Signature) → callee s.context a ≡ found → IsSomeAnd found (MayBe callees.Any) → AsksArguments s.context (calling found) x
-    → MayTake s.target (called_result (calling found)) → FunctionAndArguments s (a ∷ x ∷ [])
-calls_at s a x None c is all r = absurd is
-calls_at s a x (Some f) c is all r = grouping s f a x (grouped x) c refl all r
-
-function_and_arguments : (s : Setting) (items : List Operand) → Fit s gives.Called (Function callees.Any ∷ Arguments ∷ []) Known.Nothing items → FunctionAndArguments s items
+own_two : (s : Setting) (g : Gives) (test : Test) (items : List Operand) → Fit s g (Own test ∷ Same ∷ []) Known.Nothing items →
+    (t : ValueType) × Passes s test t × HaveAll s.context (t ∷ t ∷ []) items × Gets s g (Known.Of t)
 unfolding Fit
-function_and_arguments s [] fit = absurd fit
-function_and_arguments s (a ∷ []) fit = absurd fit.1
-function_and_arguments s (a ∷ x ∷ []) fit = calls_at s a x (callee s.context a) refl fit.0 fit.1.0 fit.1.1
-function_and_arguments s (a ∷ x ∷ y ∷ more) fit = absurd fit.1.1
+own_two s g test [] fit = absurd fit
+own_two s g test (x ∷ []) fit = absurd fit.1
+own_two s g test (x ∷ y ∷ []) fit = let it = own s test x (λ k. HasKnown s.context (known_type k) y × Gets s g k) fit.0 fit.1 in
+    (it.0, it.1, (it.2, (it.3.0, tt)), it.3.1)
+own_two s g test (x ∷ y ∷ z ∷ more) fit = absurd fit.1.1
 
-two_keys_of : (s : Setting) (a x : Operand) (t : Option ValueType) → given_kind a ≡ t → IsSound s.context a → IsSomeAnd t (IsKey s.context.declared)
-    → HasKnown s.context (known_type (knowing t)) x → TwoKeys s (a ∷ x ∷ [])
-two_keys_of s a x None e sound is has = absurd is
-two_keys_of s a x (Some t) e sound is has =
-    record { first = a; second = x; key_type = t; are = refl; is_key = is; first_is = record { sound = sound; of_type = e }; second_is = has }
-
-two_keys : (s : Setting) (g : Gives) (items : List Operand) → Fit s g (Own tests.Key ∷ Same ∷ []) Known.Nothing items → TwoKeys s items
+own_choice : (s : Setting) (g : Gives) (a : Plain) (test : Test) (items : List Operand) → Fit s g (Fixed a ∷ Own test ∷ Same ∷ []) Known.Nothing items →
+    (t : ValueType) × Passes s test t × HaveAll s.context (plain_type a ∷ t ∷ t ∷ []) items × Gets s g (Known.Of t)
 unfolding Fit
-two_keys s g [] fit = absurd fit
-two_keys s g (a ∷ []) fit = absurd fit.1
-two_keys s g (a ∷ x ∷ []) fit = two_keys_of s a x (given_kind a) refl fit.0.0 fit.0.1 fit.1.0
-two_keys s g (a ∷ x ∷ y ∷ more) fit = absurd fit.1.1
+own_choice s g a test [] fit = absurd fit
+own_choice s g a test (w ∷ []) fit = absurd fit.1
+own_choice s g a test (w ∷ x ∷ []) fit = absurd fit.1.1
+own_choice s g a test (w ∷ x ∷ y ∷ []) fit = let it = own s test x (λ k. HasKnown s.context (known_type k) y × Gets s g k) fit.1.0 fit.1.1 in
+    (it.0, it.1, (fit.0, (it.2, (it.3.0, tt))), it.3.1)
+own_choice s g a test (w ∷ x ∷ y ∷ z ∷ more) fit = absurd fit.1.1.1
 
-pub key_rows : KeyRows
-key_rows = record { equal = λ s items fits. two_keys s _ items fits.fit; less = λ s items fits. two_keys s _ items fits.fit }
+all_own : (s : Setting) (test : Test) (known : Known) (items : List Operand) →
+    Fit s gives.Nothing (replicate (length items) (Own test)) known items → All (AsksOwn s.context test) items × (s.target ≡ None)
+unfolding Fit
+all_own s test known [] fit = (All-nil (AsksOwn s.context test), fit)
+all_own s test known (x ∷ more) fit = let it = all_own s test (knowing (given_kind x)) more fit.1 in
+    (All-cons (AsksOwn s.context test) x more fit.0 it.0, it.1)
 
-one_block : (s : Setting) (g : Gives) (items : List Operand) → Fit s g (Label ∷ []) Known.Nothing items → OneBlock s items
+printed : (s : Setting) (items : List Operand) → length items ≤ 8 →
+    Fit s gives.Nothing (replicate (length items) (Own tests.Sendable)) Known.Nothing items → SomeValues tests.Sendable s items
+printed s items few fit = let it = all_own s tests.Sendable Known.Nothing items fit in record { few = few; each = it.0; no_target = it.1 }
+
+pub own_rows : OwnRows
+own_rows = record {
+    one = λ test s g r f items fits. own_one s g test items fits.fit;
+    two = λ test s g r f items fits. own_two s g test items fits.fit;
+    choice = λ a test s g r f items fits. own_choice s g a test items fits.fit;
+    print = λ s items fits. printed s items fits.counted fits.fit
+}
+
+-- lines that go on elsewhere
+one_block : (s : Setting) (g : Gives) (items : List Operand) → Fit s g (Label ∷ []) Known.Nothing items → OneBlock s items × Gets s g Known.Nothing
 unfolding Fit
 one_block s g [] fit = absurd fit
-one_block s g (a ∷ []) fit = record { block = a; are = refl; named = fit.0 }
-one_block s g (a ∷ x ∷ more) fit = absurd fit.1
+one_block s g (x ∷ []) fit = (record { block = x; are = refl; named = fit.0 }, fit.1)
+one_block s g (x ∷ y ∷ more) fit = absurd fit.1
 
-truth_and_blocks : (s : Setting) (g : Gives) (items : List Operand) → Fit s g (Fixed plain.Bool ∷ Label ∷ Label ∷ []) Known.Nothing items → TruthAndBlocks s items
+value_and_blocks : (s : Setting) (g : Gives) (a : Plain) (items : List Operand) → Fit s g (Fixed a ∷ Label ∷ Label ∷ []) Known.Nothing items →
+    ValueAndBlocks (plain_type a) s items × Gets s g Known.Nothing
 unfolding Fit
-truth_and_blocks s g [] fit = absurd fit
-truth_and_blocks s g (a ∷ []) fit = absurd fit.1
-truth_and_blocks s g (a ∷ x ∷ []) fit = absurd fit.1.1
-truth_and_blocks s g (a ∷ x ∷ y ∷ []) fit =
-    record { test = a; first = x; second = y; are = refl; test_is = fit.0; first_named = fit.1.0; second_named = fit.1.1.0 }
-truth_and_blocks s g (a ∷ x ∷ y ∷ z ∷ more) fit = absurd fit.1.1.1
+value_and_blocks s g a [] fit = absurd fit
+value_and_blocks s g a (x ∷ []) fit = absurd fit.1
+value_and_blocks s g a (x ∷ y ∷ []) fit = absurd fit.1.1
+value_and_blocks s g a (x ∷ y ∷ z ∷ []) fit =
+    (record { test = x; first = y; second = z; are = refl; test_is = fit.0; first_named = fit.1.0; second_named = fit.1.1.0 }, fit.1.1.1)
+value_and_blocks s g a (x ∷ y ∷ z ∷ w ∷ more) fit = absurd fit.1.1.1
 
-result_of : (s : Setting) (a : Operand) (t : Option ValueType) → s.context.result ≡ t → HasKnown s.context t a → ResultValue s (a ∷ [])
-result_of s a None e has = absurd has
-result_of s a (Some t) e has = record { value = a; result_type = t; are = refl; result = e; value_is = has }
+result_of : (s : Setting) (x : Operand) (t : Option ValueType) → s.context.result ≡ t → HasKnown s.context t x → ResultValue s (x ∷ [])
+result_of s x None e has = absurd has
+result_of s x (Some t) e has = record { kind = t; result = e; value = (has, tt) }
 
-result_value : (s : Setting) (g : Gives) (items : List Operand) → Fit s g (Returned ∷ []) Known.Nothing items → ResultValue s items
+result_value : (s : Setting) (g : Gives) (items : List Operand) → Fit s g (Returned ∷ []) Known.Nothing items → ResultValue s items × Gets s g Known.Nothing
 unfolding Fit
 result_value s g [] fit = absurd fit
-result_value s g (a ∷ []) fit = result_of s a s.context.result refl fit.0
-result_value s g (a ∷ x ∷ more) fit = absurd fit.1
+result_value s g (x ∷ []) fit = (result_of s x s.context.result refl fit.0, fit.1)
+result_value s g (x ∷ y ∷ more) fit = absurd fit.1
+
+exception_and_value : (s : Setting) (g : Gives) (a : Plain) (items : List Operand) → Fit s g (Exception ∷ Fixed a ∷ []) Known.Nothing items →
+    ExceptionAndValue (plain_type a) s items × Gets s g Known.Nothing
+unfolding Fit
+exception_and_value s g a [] fit = absurd fit
+exception_and_value s g a (x ∷ []) fit = absurd fit.1
+exception_and_value s g a (x ∷ y ∷ []) fit = (record { exception = x; value = y; are = refl; named = fit.0; value_is = fit.1.0 }, fit.1.1)
+exception_and_value s g a (x ∷ y ∷ z ∷ more) fit = absurd fit.1.1
 
 pub flow_rows : FlowRows
 flow_rows = record {
-    jump = λ s items fits. one_block s _ items fits.fit;
-    if_else = λ s items fits. truth_and_blocks s _ items fits.fit;
-    return_result = λ s items fits. result_value s _ items fits.fit;
-    call = λ s items fits. function_and_arguments s items fits.fit
+    block = λ s g r f items fits. one_block s g items fits.fit;
+    blocks = λ a s g r f items fits. value_and_blocks s g a items fits.fit;
+    returned = λ s g r f items fits. result_value s g items fits.fit;
+    thrown = λ a s g r f items fits. exception_and_value s g a items fits.fit
 }

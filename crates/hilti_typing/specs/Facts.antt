@@ -1,80 +1,42 @@
--- What instructions meet where their operands and targets fit, by the shape of their rows.
-use Rattle.std.specs.Prelude.{◌≡◌, ◌<◌, ◌≤◌, List, [], ◌∷◌, length, Some, IsSomeAnd}
+-- What the operands of lines are where they fit, by the shape of their rows.
+use Rattle.std.specs.Prelude.{◌≡◌, ℕ, ◌<◌, ◌≤◌, IsTrue, List, [], ◌∷◌, length, slice_get}
+use Rattle.std.specs.Prelude.{Option, Some, None, IsSomeAnd}
 use Rattle.std.specs.List.{All}
+use Rattle.hilti_types.specs.declared.declared.OverlayField.{OverlayField}
 use Rattle.hilti_types.specs.declared.value_type.Inner.{Inner, out-Inner}
+use Rattle.hilti_types.specs.declared.value_type.Inner.TheVariants as inners
 use Rattle.hilti_types.specs.declared.value_type.ValueType.{ValueType}
 use Rattle.hilti_types.specs.declared.value_type.ValueType.TheVariants as types
-use Rattle.hilti_types.specs.declared.value_type.Inner.TheOpen.{Inner-F}
-use Rattle.hilti_types.specs.Keys.{IsKey}
-use Rattle.hilti_table.specs.declared.row.Test.TheVariants as tests
+use Rattle.hilti_types.specs.Sendable.{IsSendable}
+use Rattle.hilti_table.specs.declared.row.Callee.{Callee}
+use Rattle.hilti_table.specs.declared.row.Family.{Family}
+use Rattle.hilti_table.specs.declared.row.Plain.{Plain}
+use Rattle.hilti_table.specs.declared.row.Test.{Test}
 use Rattle.hilti_program.specs.declared.parts.Operand.{Operand}
 use Rattle.hilti_program.specs.Rows.{grouped, named_block}
-use Rattle.hilti_typing.specs.Context.{Signature, Setting}
-use Rattle.hilti_typing.specs.Types.{object_of}
-use Rattle.hilti_typing.specs.Fits.{Has, HaveAll, AsksOwn, MayTake, callee}
+use Rattle.hilti_typing.specs.Context.{Signature, Context, Setting}
+use Rattle.hilti_typing.specs.Types.{plain_type, in_family, passes, can_be_made}
+use Rattle.hilti_typing.specs.Fits.{Has, HaveAll, AsksOwn, AreParts, MayBe, Matches, callee}
+use Rattle.hilti_typing.specs.Fits.{exception_number, field_number, literal_number, made}
+use Rattle.hilti_typing.specs.Fits.{field_type, is_mode, overlay}
 
--- one value of a type
-pub record OneValue (s : Setting) (t : ValueType) (items : List Operand) : Type 0 where
-  pub first : Operand
-  pub are : items ≡ first ∷ []
-  pub first_is : Has s.context t first
+-- a type that passes a test
+abbrev pub Passes : Setting → Test → ValueType → Type 0
+Passes s test t = IsTrue (passes s.context.declared test t)
 
--- two values of these types
-pub record TwoValues (s : Setting) (t u : ValueType) (items : List Operand) : Type 0 where
-  pub first : Operand
-  pub second : Operand
-  pub are : items ≡ first ∷ second ∷ []
-  pub first_is : Has s.context t first
-  pub second_is : Has s.context u second
-
--- three values of these types
-pub record ThreeValues (s : Setting) (t u v : ValueType) (items : List Operand) : Type 0 where
-  pub first : Operand
-  pub second : Operand
-  pub third : Operand
-  pub are : items ≡ first ∷ second ∷ third ∷ []
-  pub first_is : Has s.context t first
-  pub second_is : Has s.context u second
-  pub third_is : Has s.context v third
+-- an object of a family
+abbrev pub IsOf : Family → Inner → Type 0
+IsOf family object = IsTrue (in_family family (out-Inner object))
 
 -- two numbers of the line's width
 abbrev pub TwoNumbers : Setting → List Operand → Type 0
-TwoNumbers s items = TwoValues s (types.Int s.width) (types.Int s.width) items
+TwoNumbers s = HaveAll s.context (types.Int s.width ∷ types.Int s.width ∷ [])
 
--- a list, and a value of the type of its items
-pub record ListAndItem (s : Setting) (items : List Operand) : Type 0 where
-  pub list : Operand
-  pub item : Operand
-  pub list_type : ValueType
-  pub object : Inner
-  pub item_type : ValueType
-  pub are : items ≡ list ∷ item ∷ []
-  pub list_is : Has s.context list_type list
-  pub refers : object_of list_type ≡ Some object
-  pub lists : out-Inner object ≡ Inner-F.List item_type
-  pub item_is : Has s.context item_type item
-
--- a function, and arguments of the types of its parameters
-pub record FunctionAndArguments (s : Setting) (items : List Operand) : Type 0 where
-  pub called : Operand
-  pub group : Operand
-  pub function : Signature
-  pub arguments : List Operand
-  pub are : items ≡ called ∷ group ∷ []
-  pub calls : callee s.context called ≡ Some function
-  pub groups : grouped group ≡ Some arguments
-  pub arguments_are : HaveAll s.context function.parameters arguments
-  pub result : MayTake s.target function.result
-
--- two values of one key type
-pub record TwoKeys (s : Setting) (items : List Operand) : Type 0 where
-  pub first : Operand
-  pub second : Operand
-  pub key_type : ValueType
-  pub are : items ≡ first ∷ second ∷ []
-  pub is_key : IsKey s.context.declared key_type
-  pub first_is : Has s.context key_type first
-  pub second_is : Has s.context key_type second
+-- at most 8 values, each of a type that passes a test
+pub record SomeValues (test : Test) (s : Setting) (items : List Operand) : Type 0 where
+  pub few : length items ≤ 8
+  pub each : All (AsksOwn s.context test) items
+  pub no_target : s.target ≡ None
 
 -- an operand that names a block
 abbrev pub NamesBlock : Setting → Operand → Type 0
@@ -86,20 +48,107 @@ pub record OneBlock (s : Setting) (items : List Operand) : Type 0 where
   pub are : items ≡ block ∷ []
   pub named : NamesBlock s block
 
--- a truth value, and two blocks
-pub record TruthAndBlocks (s : Setting) (items : List Operand) : Type 0 where
+-- a value of a type, and two blocks
+pub record ValueAndBlocks (t : ValueType) (s : Setting) (items : List Operand) : Type 0 where
   pub test : Operand
   pub first : Operand
   pub second : Operand
   pub are : items ≡ test ∷ first ∷ second ∷ []
-  pub test_is : Has s.context types.Bool test
+  pub test_is : Has s.context t test
   pub first_named : NamesBlock s first
   pub second_named : NamesBlock s second
 
 -- a value of the type of the body's result
 pub record ResultValue (s : Setting) (items : List Operand) : Type 0 where
+  pub kind : ValueType
+  pub result : s.context.result ≡ Some kind
+  pub value : HaveAll s.context (kind ∷ []) items
+
+-- an exception, and a value of a type
+pub record ExceptionAndValue (t : ValueType) (s : Setting) (items : List Operand) : Type 0 where
+  pub exception : Operand
   pub value : Operand
-  pub result_type : ValueType
-  pub are : items ≡ value ∷ []
-  pub result : s.context.result ≡ Some result_type
-  pub value_is : Has s.context result_type value
+  pub are : items ≡ exception ∷ value ∷ []
+  pub named : IsSomeAnd (exception_number exception) (λ n. n < s.context.exceptions)
+  pub value_is : Has s.context t value
+
+-- the type of an object that can be made
+pub record MadeObject (s : Setting) (items : List Operand) : Type 0 where
+  pub word : Operand
+  pub object : Inner
+  pub are : items ≡ word ∷ []
+  pub names : made word ≡ Some object
+  pub can : IsTrue (can_be_made object)
+
+-- what is called, as `find` finds it, and arguments of the types of its parameters
+pub record Calling (find : Context → Operand → Option Signature) (s : Setting)
+    (called group : Operand) : Type 0 where
+  pub signature : Signature
+  pub arguments : List Operand
+  pub calls : find s.context called ≡ Some signature
+  pub groups : grouped group ≡ Some arguments
+  pub arguments_are : HaveAll s.context signature.parameters arguments
+
+-- a function or a hook, and its arguments
+pub record CalledWith (find : Context → Operand → Option Signature) (s : Setting)
+    (items : List Operand) : Type 0 where
+  pub called : Operand
+  pub group : Operand
+  pub are : items ≡ called ∷ group ∷ []
+  pub calling : Calling find s called group
+
+-- a number of a type, a function, and arguments of sendable types
+pub record SentWith (t : ValueType) (which : Callee) (s : Setting)
+    (items : List Operand) : Type 0 where
+  pub number : Operand
+  pub called : Operand
+  pub group : Operand
+  pub are : items ≡ number ∷ called ∷ group ∷ []
+  pub number_is : Has s.context t number
+  pub calling : Calling callee s called group
+  pub may_be : MayBe which calling.signature
+  pub sendable : All (IsSendable s.context.declared) calling.signature.parameters
+
+-- values in parentheses that make a tuple
+pub record TupleParts (s : Setting) (items : List Operand) : Type 0 where
+  pub group : Operand
+  pub values : List Operand
+  pub are : items ≡ group ∷ []
+  pub groups : grouped group ≡ Some values
+  pub each : AreParts s.context values
+
+-- a tuple, and the place of one of its parts
+pub record PartOfTuple (s : Setting) (items : List Operand) : Type 0 where
+  pub tuple : Operand
+  pub place : Operand
+  pub parts : List ValueType
+  pub at : ℕ
+  pub kind : ValueType
+  pub are : items ≡ tuple ∷ place ∷ []
+  pub tuple_is : Has s.context (types.Tuple parts) tuple
+  pub written : literal_number place ≡ Some at
+  pub part_is : slice_get parts at ≡ Some kind
+
+-- a struct and one of its fields, and further operands
+pub record FieldOfStruct (more : List Operand) (s : Setting) (items : List Operand) : Type 0 where
+  pub holder : Operand
+  pub name : Operand
+  pub struct_number : ℕ
+  pub at : ℕ
+  pub kind : ValueType
+  pub are : items ≡ holder ∷ name ∷ more
+  pub holder_is : Has s.context (types.Ref (inners.Struct struct_number)) holder
+  pub written : field_number name ≡ Some at
+  pub field_is : field_type s.context (inners.Struct struct_number) at ≡ Some kind
+
+-- an object of a type, `Create` or `Access`, and values of these types
+pub record TimeoutOf (t : ValueType) (a b : Plain) (s : Setting) (items : List Operand) : Type 0 where
+  pub object : Operand
+  pub mode : Operand
+  pub first : Operand
+  pub second : Operand
+  pub are : items ≡ object ∷ mode ∷ first ∷ second ∷ []
+  pub object_is : Has s.context t object
+  pub mode_is : IsTrue (is_mode mode)
+  pub first_is : Has s.context (plain_type a) first
+  pub second_is : Has s.context (plain_type b) second

@@ -9,7 +9,7 @@ use Rattle.hilti_types.specs.declared.declared.Declared.TheVariants as declared
 use Rattle.hilti_types.specs.declared.declared.Member.{Member}
 use Rattle.hilti_types.specs.declared.declared.OverlayField.{OverlayField}
 use Rattle.hilti_types.specs.declared.value_type.Inner.{Inner}
-use Rattle.hilti_types.specs.declared.value_type.ValueType.{ValueType}
+use Rattle.hilti_types.specs.declared.value_type.ValueType.{ValueType, out-ValueType}
 use Rattle.hilti_types.specs.declared.value_type.ValueType.TheVariants as types
 use Rattle.hilti_types.specs.declared.op.Op.{Op}
 use Rattle.hilti_types.specs.Sendable.{IsSendable}
@@ -284,7 +284,7 @@ Gets s gives.Iterator known = Needs s.target (option_map types.Iter (known_objec
 Gets s gives.Item known =
     Needs s.target (option_and_then item_of (option_and_then iterated (known_type known)))
 Gets s gives.Called known = MayTake s.target (called_result known)
-Gets s gives.AnyInt known = IsSomeAnd s.target (λ t. IsTrue (is_int t))
+Gets s gives.AnyInt known = IsSomeAnd s.target (λ t. IsTrue (is_int (out-ValueType t)))
 
 -- operands and a target that fit kinds and a result, behind what is known
 unfoldable pub Fit : Setting → Gives → List Kind → Known → List Operand → Type 0

@@ -78,16 +78,16 @@ may_be_null (types.Iter over) = true
 may_be_null (types.Ref to) = true
 may_be_null _ = false
 
-abbrev pub is_int : ValueType → Bool
-is_int (types.Int bits) = true
+abbrev pub is_int : ValueType-F Inner ValueType → Bool
+is_int (ValueType-F.Int bits) = true
 is_int _ = false
 
-abbrev pub is_tuple_shape : ValueType-F Inner ValueType → Bool
-is_tuple_shape (ValueType-F.Tuple parts) = true
-is_tuple_shape _ = false
+abbrev pub is_tuple : ValueType-F Inner ValueType → Bool
+is_tuple (ValueType-F.Tuple parts) = true
+is_tuple _ = false
 
-abbrev pub is_iterator : ValueType → Bool
-is_iterator (types.Iter over) = true
+abbrev pub is_iterator : ValueType-F Inner ValueType → Bool
+is_iterator (ValueType-F.Iter over) = true
 is_iterator _ = false
 
 -- whether a type passes a test
@@ -96,9 +96,9 @@ passes table tests.Any t = true
 passes table tests.Key t = key_over table t
 passes table tests.Sendable t = sendable_over (sendables table) t
 passes table tests.Nullable t = may_be_null t
-passes table tests.Int t = is_int t
-passes table tests.Tuple t = is_tuple_shape (out-ValueType t)
-passes table tests.Iterator t = is_iterator t
+passes table tests.Int t = is_int (out-ValueType t)
+passes table tests.Tuple t = is_tuple (out-ValueType t)
+passes table tests.Iterator t = is_iterator (out-ValueType t)
 passes table (tests.Object family) t = is_object family (object_of t)
 
 -- the element or the key of a container, and the value of a map or a classifier

@@ -1,5 +1,9 @@
 //! Laws of typed lines. They do nothing: a caller learns what they ensure.
-ghost use Rattle.hilti_typing.specs.Laws.{PlainRows, NumberRows, ListRows, KeyRows, FlowRows};
+ghost use Rattle.hilti_types.specs.declared.value_type.Inner.TheVariants as inners;
+ghost use Rattle.hilti_table.specs.declared.row.Family.TheVariants as families;
+ghost use Rattle.hilti_typing.specs.Laws.{PlainRows, NumberRows, OwnRows, FlowRows, CallRows};
+ghost use Rattle.hilti_typing.specs.Laws.{ObjectRows, ItemRows, MapRows, StructRows, TupleRows};
+ghost use Rattle.hilti_typing.specs.Laws.{PassedTests, Targets};
 
 /// Rows on plain types meet values of the types that they name, and their target is of the type that they name.
 pub fn plain_rows()
@@ -11,18 +15,58 @@ pub fn number_rows()
     ensures { NumberRows }
 {}
 
-/// `list.append` and `list.push_front` meet a list and a value of the type of its items.
-pub fn list_rows()
-    ensures { ListRows }
+/// Rows on values of a type that passes a test meet such values, and their target follows the type: so `assign`,
+/// `select`, `equal`, `less`, `hash`, `int.as` and the rows on iterators. `print` meets at most 8 sendable values.
+pub fn own_rows()
+    ensures { OwnRows }
 {}
 
-/// `equal` and `less` meet two values of one key type.
-pub fn key_rows()
-    ensures { KeyRows }
-{}
-
-/// `jump` and `if.else` meet blocks of the body; `return.result` a value of the type of its result; `call` a function,
-/// arguments of the types of its parameters, and a target, if one, of the type of its result.
+/// `jump` and `if.else` meet blocks of the body, `return.result` a value of the type of its result, and
+/// `exception.throw` an exception of the program.
 pub fn flow_rows()
     ensures { FlowRows }
+{}
+
+/// `call` and `callable.bind` meet a function, and `hook.run` a hook, with arguments of the types of its parameters.
+/// `thread.schedule` meets a function whose parameters are of sendable types.
+pub fn call_rows()
+    ensures { CallRows }
+{}
+
+/// `new` meets the type of an object that can be made. Rows on a reference meet one to an object of their family.
+pub fn object_rows()
+    ensures { ObjectRows }
+{}
+
+/// Rows on a list, a vector or a set and an item meet an item of the type that the object holds.
+pub fn item_rows()
+    ensures lists { ItemRows families.List inners.List }
+    ensures vectors { ItemRows families.Vector inners.Vector }
+    ensures sets { ItemRows families.Set inners.Set }
+{}
+
+/// Rows on a map meet keys and values of the types of the map.
+pub fn map_rows()
+    ensures { MapRows }
+{}
+
+/// Rows on a struct and a field meet a field that the struct has, and a value of the type of the field.
+pub fn struct_rows()
+    ensures { StructRows }
+{}
+
+/// `tuple.make` meets 1 to 8 values, and `tuple.get` a tuple and the place of one of its parts.
+pub fn tuple_rows()
+    ensures { TupleRows }
+{}
+
+/// Only whole numbers, tuples and iterators pass the tests that ask for them.
+pub fn passed_tests()
+    ensures { PassedTests }
+{}
+
+/// A target that follows what is known is of the known type, an iterator over the known object, or of the type of
+/// what a known iterator gives.
+pub fn targets()
+    ensures { Targets }
 {}

@@ -1,5 +1,0 @@
-use Rattle.hilti_typing.proofs.Meeting as meeting
-use Rattle.hilti_typing.proofs.laws.list_rows.Goals as goal
-
-pub returns : goal.returns
-returns c = meeting.list_rows
