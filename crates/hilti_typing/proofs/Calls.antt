@@ -10,7 +10,7 @@ use Rattle.hilti_program.specs.declared.parts.Operand.{Operand}
 use Rattle.hilti_program.specs.Rows.{grouped}
 use Rattle.hilti_typing.specs.Context.{Signature, Context, Setting, Known}
 use Rattle.hilti_typing.specs.Types.{plain_type}
-use Rattle.hilti_typing.specs.Fits.{Has, HaveAll, MayBe, Gets, Fit, AsksArguments, known_signature, calling, callee, hook}
+use Rattle.hilti_typing.specs.Fits.{HaveAll, MayBe, Gets, Fit, known_signature, calling, callee, hook}
 use Rattle.hilti_typing.specs.Facts.{Calling, CalledWith, SentWith}
 use Rattle.hilti_typing.specs.Laws.{CallRows}
 
@@ -65,13 +65,13 @@ function_sent s g n which (w ∷ a ∷ []) fit = absurd fit.1.1
 function_sent s g n which (w ∷ a ∷ x ∷ []) fit =
     let sends = both (callee s.context a) (MayBe which) (λ f. All (IsSendable s.context.declared) f.parameters) fit.1.0 fit.1.1.0.1 in
     let it = found_with callee (λ f. MayBe which f × All (IsSendable s.context.declared) f.parameters) s a x (callee s.context a) (λ k. Gets s g k)
-        refl sends fit.1.1.0.0 fit.1.1.1 in
+    refl sends fit.1.1.0.0 fit.1.1.1 in
     (record { number = w; called = a; group = x; are = refl; number_is = fit.0; calling = it.0; may_be = it.1.0; sendable = it.1.1 }, it.2)
 function_sent s g n which (w ∷ a ∷ x ∷ y ∷ more) fit = absurd fit.1.1.1
 
 pub call_rows : CallRows
 call_rows = record {
-    functions = λ which s g r f items fits. function_called s g which items fits.fit;
-    hooks = λ s g r f items fits. hook_called s g items fits.fit;
-    sends = λ a which s g r f items fits. function_sent s g a which items fits.fit
+  functions = λ which s g r f items fits. function_called s g which items fits.fit;
+  hooks = λ s g r f items fits. hook_called s g items fits.fit;
+  sends = λ a which s g r f items fits. function_sent s g a which items fits.fit;
 }

@@ -1,34 +1,23 @@
 -- From operands that fit to what lines meet.
-use Rattle.std.proofs.Common.{◌≡◌, ℕ, ◌≤◌, Bool, true, false, IsTrue, List, [], ◌∷◌, refl, sym, ap, ◌∙◌, map, replicate, length}
+use Rattle.std.proofs.Common.{◌≡◌, ◌≤◌, List, [], ◌∷◌, refl, replicate, length}
 use Rattle.std.proofs.Common.{Option, Some, None, All, IsSomeAnd}
-use Rattle.std.specs.Option.{option_and_then, option_map}
 use Rattle.std.proofs.lemmas.List.Elements.{All-nil, All-cons}
-use Rattle.std.proofs.Math.Path.{subst}
-use Rattle.hilti_types.specs.declared.value_type.Inner.{Inner}
 use Rattle.hilti_types.specs.declared.value_type.ValueType.{ValueType}
-use Rattle.hilti_types.specs.declared.value_type.ValueType.TheVariants as types
-use Rattle.hilti_table.specs.declared.row.Callee.{Callee}
-use Rattle.hilti_table.specs.declared.row.Family.{Family}
 use Rattle.hilti_table.specs.declared.row.Gives.{Gives}
 use Rattle.hilti_table.specs.declared.row.Gives.TheVariants as gives
-use Rattle.hilti_table.specs.declared.row.Kind.{Kind}
-use Rattle.hilti_table.specs.declared.row.Kind.TheVariants.{Fixed, Sized, Own, Part, Same, Label}
-use Rattle.hilti_table.specs.declared.row.Kind.TheVariants.{Returned, Function, Hook, Arguments, Sent, Exception, New, Mode, Parts}
-use Rattle.hilti_table.specs.declared.row.Part.{Part as PartOf}
-use Rattle.hilti_table.specs.declared.row.Part.TheVariants as parts
+use Rattle.hilti_table.specs.declared.row.Kind.TheVariants.{Fixed, Sized, Own, Same, Label}
+use Rattle.hilti_table.specs.declared.row.Kind.TheVariants.{Returned, Exception}
 use Rattle.hilti_table.specs.declared.row.Plain.{Plain}
 use Rattle.hilti_table.specs.declared.row.Test.{Test}
 use Rattle.hilti_table.specs.declared.row.Test.TheVariants as tests
 use Rattle.hilti_program.specs.declared.parts.Operand.{Operand}
 use Rattle.hilti_program.specs.Givens.{given_kind}
-use Rattle.hilti_program.specs.Rows.{grouped}
-use Rattle.hilti_typing.specs.Context.{Signature, Context, Setting, Known}
-use Rattle.hilti_typing.specs.Types.{plain_type, passes}
-use Rattle.hilti_typing.specs.Fits.{IsSound, Has, HasKnown, HaveAll, Needs, MayBe, Gets, Fit, AsksOwn, AsksArguments, AsksSent, AreParts}
-use Rattle.hilti_typing.specs.Fits.{knowing, calling, known_type, callee, hook, made, tuple_type, given}
+use Rattle.hilti_typing.specs.Context.{Setting, Known}
+use Rattle.hilti_typing.specs.Types.{plain_type}
+use Rattle.hilti_typing.specs.Fits.{IsSound, Has, HasKnown, HaveAll, Gets, Fit, AsksOwn}
+use Rattle.hilti_typing.specs.Fits.{knowing, known_type}
 use Rattle.hilti_typing.specs.Facts.{Passes, TwoNumbers, SomeValues, OneBlock, ValueAndBlocks, ResultValue, ExceptionAndValue}
-use Rattle.hilti_typing.specs.Facts.{MadeObject, Calling, CalledWith, SentWith, TupleParts}
-use Rattle.hilti_typing.specs.Laws.{PlainRows, NumberRows, OwnRows, FlowRows, CallRows}
+use Rattle.hilti_typing.specs.Laws.{PlainRows, NumberRows, OwnRows, FlowRows}
 
 -- values of plain types
 no_value : (s : Setting) (g : Gives) (items : List Operand) → Fit s g [] Known.Nothing items → (items ≡ []) × Gets s g Known.Nothing
@@ -70,10 +59,10 @@ two_numbers s g (x ∷ y ∷ z ∷ more) fit = absurd fit.1.1
 
 pub plain_rows : PlainRows
 plain_rows = record {
-    none = λ s g r f items fits. no_value s g items fits.fit;
-    one = λ a s g r f items fits. one_value s g a items fits.fit;
-    two = λ a b s g r f items fits. two_values s g a b items fits.fit;
-    three = λ a b c s g r f items fits. three_values s g a b c items fits.fit
+  none = λ s g r f items fits. no_value s g items fits.fit;
+  one = λ a s g r f items fits. one_value s g a items fits.fit;
+  two = λ a b s g r f items fits. two_values s g a b items fits.fit;
+  three = λ a b c s g r f items fits. three_values s g a b c items fits.fit;
 }
 
 pub number_rows : NumberRows
@@ -128,10 +117,10 @@ printed s items few fit = let it = all_own s tests.Sendable Known.Nothing items 
 
 pub own_rows : OwnRows
 own_rows = record {
-    one = λ test s g r f items fits. own_one s g test items fits.fit;
-    two = λ test s g r f items fits. own_two s g test items fits.fit;
-    choice = λ a test s g r f items fits. own_choice s g a test items fits.fit;
-    print = λ s items fits. printed s items fits.counted fits.fit
+  one = λ test s g r f items fits. own_one s g test items fits.fit;
+  two = λ test s g r f items fits. own_two s g test items fits.fit;
+  choice = λ a test s g r f items fits. own_choice s g a test items fits.fit;
+  print = λ s items fits. printed s items fits.counted fits.fit;
 }
 
 -- lines that go on elsewhere
@@ -171,8 +160,8 @@ exception_and_value s g a (x ∷ y ∷ z ∷ more) fit = absurd fit.1.1
 
 pub flow_rows : FlowRows
 flow_rows = record {
-    block = λ s g r f items fits. one_block s g items fits.fit;
-    blocks = λ a s g r f items fits. value_and_blocks s g a items fits.fit;
-    returned = λ s g r f items fits. result_value s g items fits.fit;
-    thrown = λ a s g r f items fits. exception_and_value s g a items fits.fit
+  block = λ s g r f items fits. one_block s g items fits.fit;
+  blocks = λ a s g r f items fits. value_and_blocks s g a items fits.fit;
+  returned = λ s g r f items fits. result_value s g items fits.fit;
+  thrown = λ a s g r f items fits. exception_and_value s g a items fits.fit;
 }

@@ -1,5 +1,5 @@
 -- What lines on objects meet.
-use Rattle.std.proofs.Common.{◌≡◌, ℕ, List, [], ◌∷◌, refl, sym, ap, ◌∙◌, Option, Some, None, IsSomeAnd, IsTrue}
+use Rattle.std.proofs.Common.{◌≡◌, List, [], ◌∷◌, refl, sym, ap, ◌∙◌, Option, Some, None, IsSomeAnd, IsTrue}
 use Rattle.std.proofs.Math.Path.{subst}
 use Rattle.std.specs.Option.{option_map, option_and_then}
 use Rattle.hilti_types.specs.declared.value_type.Inner.{Inner}
@@ -19,7 +19,7 @@ use Rattle.hilti_program.specs.declared.parts.Operand.{Operand}
 use Rattle.hilti_program.specs.Givens.{given_kind}
 use Rattle.hilti_typing.specs.Context.{Setting, Known}
 use Rattle.hilti_typing.specs.Types.{plain_type, part_of, can_be_made}
-use Rattle.hilti_typing.specs.Fits.{Has, HasKnown, HaveAll, Needs, Gets, Fit, AsksOwn, knowing, known_part, known_object, made}
+use Rattle.hilti_typing.specs.Fits.{Has, HasKnown, HaveAll, Needs, Gets, Fit, AsksOwn, knowing, known_part, made}
 use Rattle.hilti_typing.specs.Facts.{IsOf, MadeObject, TimeoutOf}
 use Rattle.hilti_typing.specs.Laws.{ObjectRows, ItemRows, MapRows}
 use Rattle.hilti_typing.proofs.Meeting.{own}
@@ -43,7 +43,7 @@ formed of s family forms x rest asks more =
     (form.0, subst (λ o. Has s.context (types.Ref o) x) form.1 it.2, subst (λ o. rest (Known.Of (types.Ref o))) form.1 it.3)
 
 -- a part of an object that is known
-part_known : (part : PartOf) (o : Inner) (t : ValueType) → part_of part o ≡ Some t → known_part part (Known.Of (types.Ref o)) ≡ Some t
+pub part_known : (part : PartOf) (o : Inner) (t : ValueType) → part_of part o ≡ Some t → known_part part (Known.Of (types.Ref o)) ≡ Some t
 part_known part o t e = ap (λ to. option_and_then (part_of part) to) (shapes.refers o) ∙ e
 
 pub needed : (target : Option ValueType) (t : ValueType) → Needs target (Some t) → target ≡ Some t
@@ -93,18 +93,18 @@ timeout_of s g family a b (x ∷ y ∷ z ∷ w ∷ v ∷ more) fit = absurd fit.
 
 pub object_rows : ObjectRows
 object_rows = record {
-    made = λ s g r f items fits. new_object s g items fits.fit;
-    one = λ family s g r f items fits. one_object s g family items fits.fit;
-    number = λ family a s g r f items fits. object_and_value s g family a items fits.fit;
-    timeout = λ family a b s g r f items fits. timeout_of s g family a b items fits.fit
+  made = λ s g r f items fits. new_object s g items fits.fit;
+  one = λ family s g r f items fits. one_object s g family items fits.fit;
+  number = λ family a s g r f items fits. object_and_value s g family a items fits.fit;
+  timeout = λ family a b s g r f items fits. timeout_of s g family a b items fits.fit;
 }
 
 -- what is asked of a known part is asked of its type
-of_part : (s : Setting) (part : PartOf) (o : Inner) (t : ValueType) (x : Operand) → part_of part o ≡ Some t →
+pub of_part : (s : Setting) (part : PartOf) (o : Inner) (t : ValueType) (x : Operand) → part_of part o ≡ Some t →
     HasKnown s.context (known_part part (Known.Of (types.Ref o))) x → Has s.context t x
 of_part s part o t x e has = subst (λ known. HasKnown s.context known x) (part_known part o t e) has
 
-target_of : (s : Setting) (part : PartOf) (o : Inner) (t : ValueType) → part_of part o ≡ Some t →
+pub target_of : (s : Setting) (part : PartOf) (o : Inner) (t : ValueType) → part_of part o ≡ Some t →
     Gets s (gives.Part part) (Known.Of (types.Ref o)) → s.target ≡ Some t
 target_of s part o t e gets = needed s.target t (subst (Needs s.target) (part_known part o t e) gets)
 
@@ -134,10 +134,10 @@ module _ (family : Family) (of : ValueType → Inner) (forms : (o : Inner) → I
 
   pub item_rows : ItemRows family of
   item_rows = record {
-      objects = forms;
-      item = λ s g r f items fits. object_and_item s g items fits.fit;
-      place = λ a s g r f items fits. object_place_item s g a items fits.fit;
-      target = λ s t gets. target_of s parts.First (of t) t (first t) gets
+    objects = forms;
+    item = λ s g r f items fits. object_and_item s g items fits.fit;
+    place = λ a s g r f items fits. object_place_item s g a items fits.fit;
+    target = λ s t gets. target_of s parts.First (of t) t (first t) gets;
   }
 
 pub lists : ItemRows families.List inners.List
@@ -183,8 +183,8 @@ map_key_value s g (x ∷ y ∷ z ∷ w ∷ more) fit = absurd fit.1.1.1
 
 pub map_rows : MapRows
 map_rows = record {
-    objects = shapes.a_map;
-    key = λ s g r f items fits. map_and_key s g items fits.fit;
-    value = λ s g r f items fits. map_key_value s g items fits.fit;
-    target = λ s k v gets. target_of s parts.Second (inners.Map k v) v (shapes.map_value k v) gets
+  objects = shapes.a_map;
+  key = λ s g r f items fits. map_and_key s g items fits.fit;
+  value = λ s g r f items fits. map_key_value s g items fits.fit;
+  target = λ s k v gets. target_of s parts.Second (inners.Map k v) v (shapes.map_value k v) gets;
 }

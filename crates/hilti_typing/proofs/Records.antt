@@ -1,5 +1,5 @@
 -- What lines on structs and tuples meet, and targets that follow what is known.
-use Rattle.std.proofs.Common.{◌≡◌, ℕ, true, List, [], ◌∷◌, refl, sym, ap, ◌∙◌, map, slice_get, Option, Some, None, IsSomeAnd, IsSome, is_some}
+use Rattle.std.proofs.Common.{◌≡◌, ℕ, true, List, [], ◌∷◌, refl, sym, ap, map, slice_get, Option, Some, None, IsSomeAnd, IsSome, is_some}
 use Rattle.std.proofs.lemmas.Bool.{false≢true}
 use Rattle.std.proofs.Math.Path.{subst}
 use Rattle.std.specs.Option.{option_map, option_and_then}
@@ -9,16 +9,15 @@ use Rattle.hilti_types.specs.declared.value_type.ValueType.{ValueType}
 use Rattle.hilti_types.specs.declared.value_type.ValueType.TheVariants as types
 use Rattle.hilti_table.specs.declared.row.Family.TheVariants as families
 use Rattle.hilti_table.specs.declared.row.Gives.{Gives}
-use Rattle.hilti_table.specs.declared.row.Gives.TheVariants as gives
 use Rattle.hilti_table.specs.declared.row.Kind.TheVariants.{Own, Field, Same, Parts, Index}
 use Rattle.hilti_table.specs.declared.row.Test.TheVariants as tests
 use Rattle.hilti_program.specs.declared.parts.Operand.{Operand}
 use Rattle.hilti_program.specs.Givens.{given_kind}
 use Rattle.hilti_program.specs.Rows.{grouped}
 use Rattle.hilti_typing.specs.Context.{Context, Setting, Known}
-use Rattle.hilti_typing.specs.Types.{object_of, iterated, item_of, parts_of}
-use Rattle.hilti_typing.specs.Fits.{Has, HasKnown, Needs, Gets, Fit, AsksOwn, AreParts, knowing, known_type, known_object}
-use Rattle.hilti_typing.specs.Fits.{field, field_type, field_number, literal_number, tuple_part, tuple_type, given}
+use Rattle.hilti_typing.specs.Types.{item_of}
+use Rattle.hilti_typing.specs.Fits.{Has, HasKnown, Needs, Gets, Fit, AsksOwn, AreParts, knowing, known_type}
+use Rattle.hilti_typing.specs.Fits.{field, field_type, field_number, literal_number, tuple_part, given}
 use Rattle.hilti_typing.specs.Facts.{FieldOfStruct, PartOfTuple, TupleParts}
 use Rattle.hilti_typing.specs.Laws.{StructRows, TupleRows, PassedTests, Targets}
 use Rattle.hilti_typing.proofs.Meeting.{own}
@@ -26,7 +25,7 @@ use Rattle.hilti_typing.proofs.Objects.{referring, needed}
 use Rattle.hilti_typing.proofs.Shapes as shapes
 
 -- what is there, behind a number that is there
-there : {A B : Type 0} (f : A → Option B) (x : Option A) (found : Option B) → option_and_then f x ≡ found → is_some found ≡ true →
+pub there : {A B : Type 0} (f : A → Option B) (x : Option A) (found : Option B) → option_and_then f x ≡ found → is_some found ≡ true →
     (a : A) × (b : B) × (x ≡ Some a) × (f a ≡ Some b) × (found ≡ Some b)
 there f None None e is = absurd (false≢true is)
 there f (Some a) None e is = absurd (false≢true is)
@@ -42,9 +41,10 @@ struct_field : (s : Setting) (x y : Operand) (more : List Operand) (n : ℕ) (re
     (f : FieldOfStruct more s (x ∷ y ∷ more)) × rest (Known.Of f.kind)
 struct_field s x y more n rest has is further =
     let it = there (field_type s.context (inners.Struct n)) (field_number y) (field s.context (Known.Of (types.Ref (inners.Struct n))) y)
-        (sym (field_of s.context (inners.Struct n) y)) is in
-    (record { holder = x; name = y; struct_number = n; at = it.0; kind = it.1; are = refl; holder_is = has; written = it.2; field_is = it.3 },
-     subst (λ found. rest (knowing found)) it.4 further)
+    (sym (field_of s.context (inners.Struct n) y)) is in (
+      record { holder = x; name = y; struct_number = n; at = it.0; kind = it.1; are = refl; holder_is = has; written = it.2; field_is = it.3 },
+      subst (λ found. rest (knowing found)) it.4 further,
+    )
 
 structed : (s : Setting) (x y : Operand) (more : List Operand) (rest : Known → Type 0) → AsksOwn s.context (tests.Object families.Struct) x →
     IsSome (field s.context (knowing (given_kind x)) y) → rest (knowing (field s.context (knowing (given_kind x)) y)) →
@@ -53,7 +53,7 @@ structed s x y more rest asks is further =
     let it = referring s families.Struct x (λ k. IsSome (field s.context k y) × rest (knowing (field s.context k y))) asks (is, further) in
     let form = shapes.struct it.0 it.1 in
     let found = subst (λ o. Has s.context (types.Ref o) x × IsSome (field s.context (Known.Of (types.Ref o)) y)
-        × rest (knowing (field s.context (Known.Of (types.Ref o)) y))) form.1 (it.2, it.3.0, it.3.1) in
+    × rest (knowing (field s.context (Known.Of (types.Ref o)) y))) form.1 (it.2, it.3.0, it.3.1) in
     struct_field s x y more form.0 rest found.0 found.1 found.2
 
 field_row : (s : Setting) (g : Gives) (items : List Operand) → Fit s g (Own (tests.Object families.Struct) ∷ Field ∷ []) Known.Nothing items →
@@ -77,8 +77,8 @@ field_and_value s g (x ∷ y ∷ z ∷ w ∷ more) fit = absurd fit.1.1.1
 
 pub struct_rows : StructRows
 struct_rows = record {
-    field = λ s g r f items fits. field_row s g items fits.fit;
-    value = λ s g r f items fits. field_and_value s g items fits.fit
+  field = λ s g r f items fits. field_row s g items fits.fit;
+  value = λ s g r f items fits. field_and_value s g items fits.fit;
 }
 
 -- tuples
@@ -102,9 +102,10 @@ tuple_and_part : (s : Setting) (x y : Operand) (parts : List ValueType) (rest : 
     IsSome (tuple_part (Known.Of (types.Tuple parts)) y) → rest (knowing (tuple_part (Known.Of (types.Tuple parts)) y)) →
     (p : PartOfTuple s (x ∷ y ∷ [])) × rest (Known.Of p.kind)
 tuple_and_part s x y parts rest has is further =
-    let it = there (λ (n : ℕ). slice_get parts n) (literal_number y) (tuple_part (Known.Of (types.Tuple parts)) y) (sym (part_of_tuple parts y)) is in
-    (record { tuple = x; place = y; parts = parts; at = it.0; kind = it.1; are = refl; tuple_is = has; written = it.2; part_is = it.3 },
-     subst (λ found. rest (knowing found)) it.4 further)
+    let it = there (λ (n : ℕ). slice_get parts n) (literal_number y) (tuple_part (Known.Of (types.Tuple parts)) y) (sym (part_of_tuple parts y)) is in (
+      record { tuple = x; place = y; parts = parts; at = it.0; kind = it.1; are = refl; tuple_is = has; written = it.2; part_is = it.3 },
+      subst (λ found. rest (knowing found)) it.4 further,
+    )
 
 tupled : (s : Setting) (x y : Operand) (rest : Known → Type 0) → AsksOwn s.context tests.Tuple x →
     IsSome (tuple_part (knowing (given_kind x)) y) → rest (knowing (tuple_part (knowing (given_kind x)) y)) →
@@ -125,8 +126,8 @@ get_row s g (x ∷ y ∷ z ∷ more) fit = absurd fit.1.1
 
 pub tuple_rows : TupleRows
 tuple_rows = record {
-    make = λ s g r f items fits. make_row s g items fits.fit;
-    get = λ s g r f items fits. get_row s g items fits.fit
+  make = λ s g r f items fits. make_row s g items fits.fit;
+  get = λ s g r f items fits. get_row s g items fits.fit;
 }
 
 -- types that pass tests, and targets
@@ -135,7 +136,7 @@ passed_tests = record { int = shapes.int; tuple = shapes.tuple; iterator = shape
 
 pub targets : Targets
 targets = record {
-    same = λ s t gets. needed s.target t gets;
-    iterator = λ s o gets. needed s.target (types.Iter o) (subst (λ to. Needs s.target (option_map types.Iter to)) (shapes.refers o) gets);
-    item = λ s o gets. subst (λ over. Needs s.target (option_and_then item_of over)) (shapes.goes_over o) gets
+  same = λ s t gets. needed s.target t gets;
+  iterator = λ s o gets. needed s.target (types.Iter o) (subst (λ to. Needs s.target (option_map types.Iter to)) (shapes.refers o) gets);
+  item = λ s o gets. subst (λ over. Needs s.target (option_and_then item_of over)) (shapes.goes_over o) gets;
 }

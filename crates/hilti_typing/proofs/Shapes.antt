@@ -1,5 +1,5 @@
 -- What types of a shape are.
-use Rattle.std.proofs.Common.{◌≡◌, ℕ, Bool, true, false, IsTrue, List, refl, sym, ap, ◌∙◌, Option, Some, None}
+use Rattle.std.proofs.Common.{◌≡◌, ℕ, IsTrue, List, refl, sym, ap, ◌∙◌, Some}
 use Rattle.std.proofs.lemmas.Bool.{false≢true}
 use Rattle.hilti_types.specs.declared.declared.Declared.{Declared}
 use Rattle.hilti_types.specs.declared.value_type.Inner.{Inner, out-Inner, roll-Inner, roll-out-Inner, out-roll-Inner}
@@ -12,7 +12,7 @@ use Rattle.hilti_table.specs.declared.row.Family.TheVariants as families
 use Rattle.hilti_table.specs.declared.row.Part.TheVariants as parts
 use Rattle.hilti_table.specs.declared.row.Test.TheVariants as tests
 use Rattle.hilti_typing.specs.Types.{referred, object_of, is_object, in_family, passes, part_of, part_of_shape}
-use Rattle.hilti_typing.specs.Types.{is_int, is_iterator, is_tuple, gone_over, iterated, parts_of, parts_of_shape}
+use Rattle.hilti_typing.specs.Types.{is_int, is_iterator, is_tuple, gone_over, iterated, parts_of, parts_of_shape, rule_of, rule_of_shape}
 use Rattle.hilti_typing.specs.Facts.{IsOf}
 
 -- a reference
@@ -95,6 +95,16 @@ struct_shape (Inner-F.Set item) is = absurd (false≢true is)
 struct_shape (Inner-F.Map key value) is = absurd (false≢true is)
 struct_shape (Inner-F.Classifier rule value) is = absurd (false≢true is)
 
+classifier_shape : (shape : Inner-F Inner ValueType) → IsTrue (in_family families.Classifier shape) → (r : ValueType) × (v : ValueType) × (shape ≡ Inner-F.Classifier r v)
+classifier_shape (Inner-F.Classifier rule value) is = (rule, value, refl)
+classifier_shape Inner-F.Timer is = absurd (false≢true is)
+classifier_shape Inner-F.Manager is = absurd (false≢true is)
+classifier_shape (Inner-F.Struct n) is = absurd (false≢true is)
+classifier_shape (Inner-F.List item) is = absurd (false≢true is)
+classifier_shape (Inner-F.Vector item) is = absurd (false≢true is)
+classifier_shape (Inner-F.Set item) is = absurd (false≢true is)
+classifier_shape (Inner-F.Map key value) is = absurd (false≢true is)
+
 object_of_shape : (o : Inner) (shape : Inner-F Inner ValueType) → out-Inner o ≡ shape → o ≡ roll-Inner shape
 object_of_shape o shape e = sym (roll-out-Inner o) ∙ ap roll-Inner e
 
@@ -114,6 +124,10 @@ a_map o is = let it = map_shape (out-Inner o) is in
 pub struct : (o : Inner) → IsOf families.Struct o → (n : ℕ) × (o ≡ inners.Struct n)
 struct o is = let it = struct_shape (out-Inner o) is in (it.0, object_of_shape o (Inner-F.Struct it.0) it.1 ∙ inners.rolls-Struct it.0)
 
+pub classifier : (o : Inner) → IsOf families.Classifier o → (r : ValueType) × (v : ValueType) × (o ≡ inners.Classifier r v)
+classifier o is = let it = classifier_shape (out-Inner o) is in
+    (it.0, it.1, object_of_shape o (Inner-F.Classifier it.0 it.1) it.2 ∙ inners.rolls-Classifier it.0 it.1)
+
 -- their parts
 pub list_item : (t : ValueType) → part_of parts.First (inners.List t) ≡ Some t
 list_item t = ap (part_of parts.First) (sym (inners.rolls-List t)) ∙ ap (part_of_shape parts.First) (out-roll-Inner (Inner-F.List t))
@@ -129,6 +143,12 @@ map_key k v = ap (part_of parts.First) (sym (inners.rolls-Map k v)) ∙ ap (part
 
 pub map_value : (k v : ValueType) → part_of parts.Second (inners.Map k v) ≡ Some v
 map_value k v = ap (part_of parts.Second) (sym (inners.rolls-Map k v)) ∙ ap (part_of_shape parts.Second) (out-roll-Inner (Inner-F.Map k v))
+
+pub classifier_value : (r v : ValueType) → part_of parts.Second (inners.Classifier r v) ≡ Some v
+classifier_value r v = ap (part_of parts.Second) (sym (inners.rolls-Classifier r v)) ∙ ap (part_of_shape parts.Second) (out-roll-Inner (Inner-F.Classifier r v))
+
+pub classifier_rule : (r v : ValueType) → rule_of (inners.Classifier r v) ≡ Some (parts_of r)
+classifier_rule r v = ap rule_of (sym (inners.rolls-Classifier r v)) ∙ ap rule_of_shape (out-roll-Inner (Inner-F.Classifier r v))
 
 -- types that pass tests
 int_shape : (shape : ValueType-F Inner ValueType) → IsTrue (is_int shape) → (x : ℕ) × (shape ≡ ValueType-F.Int x)

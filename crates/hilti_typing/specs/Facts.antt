@@ -1,7 +1,8 @@
 -- What the operands of lines are where they fit, by the shape of their rows.
-use Rattle.std.specs.Prelude.{◌≡◌, ℕ, ◌<◌, ◌≤◌, IsTrue, List, [], ◌∷◌, length, slice_get}
+use Rattle.std.specs.Prelude.{◌≡◌, ℕ, ◌<◌, ◌≤◌, IsTrue, List, [], ◌∷◌, length, map}
+use Rattle.std.specs.Prelude.{slice_get}
 use Rattle.std.specs.Prelude.{Option, Some, None, IsSomeAnd}
-use Rattle.std.specs.List.{All}
+use Rattle.std.specs.List.{All, AllZip}
 use Rattle.hilti_types.specs.declared.declared.OverlayField.{OverlayField}
 use Rattle.hilti_types.specs.declared.value_type.Inner.{Inner, out-Inner}
 use Rattle.hilti_types.specs.declared.value_type.Inner.TheVariants as inners
@@ -15,7 +16,8 @@ use Rattle.hilti_table.specs.declared.row.Test.{Test}
 use Rattle.hilti_program.specs.declared.parts.Operand.{Operand}
 use Rattle.hilti_program.specs.Rows.{grouped, named_block}
 use Rattle.hilti_typing.specs.Context.{Signature, Context, Setting}
-use Rattle.hilti_typing.specs.Types.{plain_type, in_family, passes, can_be_made}
+use Rattle.hilti_typing.specs.Types.{plain_type, in_family, passes, can_be_made, parts_of}
+use Rattle.hilti_typing.specs.Types.{asked_for}
 use Rattle.hilti_typing.specs.Fits.{Has, HaveAll, AsksOwn, AreParts, MayBe, Matches, callee}
 use Rattle.hilti_typing.specs.Fits.{exception_number, field_number, literal_number, made}
 use Rattle.hilti_typing.specs.Fits.{field_type, is_mode, overlay}
@@ -142,7 +144,8 @@ pub record FieldOfStruct (more : List Operand) (s : Setting) (items : List Opera
   pub field_is : field_type s.context (inners.Struct struct_number) at ≡ Some kind
 
 -- an object of a type, `Create` or `Access`, and values of these types
-pub record TimeoutOf (t : ValueType) (a b : Plain) (s : Setting) (items : List Operand) : Type 0 where
+pub record TimeoutOf (t : ValueType) (a b : Plain) (s : Setting)
+    (items : List Operand) : Type 0 where
   pub object : Operand
   pub mode : Operand
   pub first : Operand
@@ -150,5 +153,50 @@ pub record TimeoutOf (t : ValueType) (a b : Plain) (s : Setting) (items : List O
   pub are : items ≡ object ∷ mode ∷ first ∷ second ∷ []
   pub object_is : Has s.context t object
   pub mode_is : IsTrue (is_mode mode)
+  pub first_is : Has s.context (plain_type a) first
+  pub second_is : Has s.context (plain_type b) second
+
+-- values in parentheses, one for each of these types, of which this is so
+pub record Grouped (so : ValueType → Operand → Type 0) (kinds : List ValueType)
+    (group : Operand) : Type 0 where
+  pub values : List Operand
+  pub groups : grouped group ≡ Some values
+  pub each : AllZip so kinds values
+
+-- a classifier, a rule of it, a number of a type, and a value
+pub record RuleAndValue (a : Plain) (rule value : ValueType) (s : Setting)
+    (items : List Operand) : Type 0 where
+  pub holder : Operand
+  pub group : Operand
+  pub number : Operand
+  pub last : Operand
+  pub are : items ≡ holder ∷ group ∷ number ∷ last ∷ []
+  pub holder_is : Has s.context (types.Ref (inners.Classifier rule value)) holder
+  pub matches : Grouped (Matches s.context) (parts_of rule) group
+  pub number_is : Has s.context (plain_type a) number
+  pub last_is : Has s.context value last
+
+-- a classifier, and what it is asked for
+pub record ClassifierAsked (rule value : ValueType) (s : Setting)
+    (items : List Operand) : Type 0 where
+  pub holder : Operand
+  pub group : Operand
+  pub are : items ≡ holder ∷ group ∷ []
+  pub holder_is : Has s.context (types.Ref (inners.Classifier rule value)) holder
+  pub asked : Grouped (Has s.context) (map asked_for (parts_of rule)) group
+
+-- an overlay and one of its fields, and values of these types
+pub record FieldOfOverlay (a b : Plain) (s : Setting) (items : List Operand) : Type 0 where
+  pub form : Operand
+  pub name : Operand
+  pub first : Operand
+  pub second : Operand
+  pub fields : List OverlayField
+  pub at : ℕ
+  pub field : OverlayField
+  pub are : items ≡ form ∷ name ∷ first ∷ second ∷ []
+  pub reads : overlay s.context form ≡ Some fields
+  pub written : field_number name ≡ Some at
+  pub there : slice_get fields at ≡ Some field
   pub first_is : Has s.context (plain_type a) first
   pub second_is : Has s.context (plain_type b) second

@@ -1,5 +1,5 @@
 -- What lines of a shape meet, and what types pass tests.
-use Rattle.std.specs.Prelude.{◌≡◌, ℕ, IsTrue, List, [], ◌∷◌, map, Option, Some}
+use Rattle.std.specs.Prelude.{◌≡◌, ℕ, IsTrue, List, [], ◌∷◌, map, Some}
 use Rattle.hilti_types.specs.declared.declared.Declared.{Declared}
 use Rattle.hilti_types.specs.declared.op.Op.{Op}
 use Rattle.hilti_types.specs.declared.op.Op.TheVariants as ops
@@ -16,7 +16,8 @@ use Rattle.hilti_table.specs.declared.row.Gives.TheVariants as gives
 use Rattle.hilti_table.specs.declared.row.Kind.TheVariants.{Fixed, Sized, Own, Same, Part, Label}
 use Rattle.hilti_table.specs.declared.row.Kind.TheVariants.{Returned, Function, Hook, Arguments}
 use Rattle.hilti_table.specs.declared.row.Kind.TheVariants.{Sent, Exception, New, Mode, Parts}
-use Rattle.hilti_table.specs.declared.row.Kind.TheVariants.{Index, Field}
+use Rattle.hilti_table.specs.declared.row.Kind.TheVariants.{Index, Field, Rule, Query, Overlay}
+use Rattle.hilti_table.specs.declared.row.Kind.TheVariants.{OverlayField}
 use Rattle.hilti_table.specs.declared.row.Part.TheVariants as parts
 use Rattle.hilti_table.specs.declared.row.Plain.{Plain}
 use Rattle.hilti_table.specs.declared.row.Raises.{Raises}
@@ -32,7 +33,8 @@ use Rattle.hilti_typing.specs.Fits.{Has, HaveAll, Gets, FitsRow, MayBe, Needs, c
 use Rattle.hilti_typing.specs.Facts.{Passes, IsOf, TwoNumbers, SomeValues, OneBlock}
 use Rattle.hilti_typing.specs.Facts.{ValueAndBlocks, ResultValue, ExceptionAndValue, MadeObject}
 use Rattle.hilti_typing.specs.Facts.{CalledWith, SentWith, TupleParts, PartOfTuple}
-use Rattle.hilti_typing.specs.Facts.{FieldOfStruct, TimeoutOf}
+use Rattle.hilti_typing.specs.Facts.{FieldOfStruct, TimeoutOf, RuleAndValue, ClassifierAsked}
+use Rattle.hilti_typing.specs.Facts.{FieldOfOverlay}
 
 -- a line that fits a row with these operands meets this; `gets` says what its target is where this
 -- is known behind the operands
@@ -54,10 +56,10 @@ pub record PlainRows : Type 0 where
       (λ s gets items. HaveAll s.context (plain_type a ∷ []) items × gets Known.Nothing)
   pub two : (a b : Plain) → Meets (takes.Two (Fixed a) (Fixed b))
       (λ s gets items. HaveAll s.context (plain_type a ∷ plain_type b ∷ []) items
-          × gets Known.Nothing)
+      × gets Known.Nothing)
   pub three : (a b c : Plain) → Meets (takes.Three (Fixed a) (Fixed b) (Fixed c))
       (λ s gets items. HaveAll s.context (plain_type a ∷ plain_type b ∷ plain_type c ∷ []) items
-          × gets Known.Nothing)
+      × gets Known.Nothing)
 
 -- rows on two numbers of the line's width
 abbrev pub NumberRows : Type 0
@@ -68,13 +70,13 @@ NumberRows =
 pub record OwnRows : Type 0 where
   pub one : (test : Test) → Meets (takes.One (Own test))
       (λ s gets items. (t : ValueType) × Passes s test t × HaveAll s.context (t ∷ []) items
-          × gets (Known.Of t))
+      × gets (Known.Of t))
   pub two : (test : Test) → Meets (takes.Two (Own test) Same)
       (λ s gets items. (t : ValueType) × Passes s test t × HaveAll s.context (t ∷ t ∷ []) items
-          × gets (Known.Of t))
+      × gets (Known.Of t))
   pub choice : (a : Plain) (test : Test) → Meets (takes.Three (Fixed a) (Own test) Same)
       (λ s gets items. (t : ValueType) × Passes s test t
-          × HaveAll s.context (plain_type a ∷ t ∷ t ∷ []) items × gets (Known.Of t))
+      × HaveAll s.context (plain_type a ∷ t ∷ t ∷ []) items × gets (Known.Of t))
   pub print : MeetsAt ops.Print (SomeValues tests.Sendable)
 
 -- rows that go on elsewhere
@@ -91,13 +93,13 @@ pub record FlowRows : Type 0 where
 pub record CallRows : Type 0 where
   pub functions : (which : Callee) → Meets (takes.Two (Function which) Arguments)
       (λ s gets items. (c : CalledWith callee s items) × MayBe which c.calling.signature
-          × gets (Known.Calls c.calling.signature))
+      × gets (Known.Calls c.calling.signature))
   pub hooks : Meets (takes.Two Hook Arguments)
       (λ s gets items. (c : CalledWith hook s items) × gets (Known.Calls c.calling.signature))
   pub sends : (a : Plain) (which : Callee) →
       Meets (takes.Three (Fixed a) (Function which) Sent)
       (λ s gets items. (c : SentWith (plain_type a) which s items)
-          × gets (Known.Calls c.calling.signature))
+      × gets (Known.Calls c.calling.signature))
 
 -- rows on an object of any family
 pub record ObjectRows : Type 0 where
@@ -105,28 +107,28 @@ pub record ObjectRows : Type 0 where
       (λ s gets items. (m : MadeObject s items) × gets (Known.Of (types.Ref m.object)))
   pub one : (family : Family) → Meets (takes.One (Own (tests.Object family)))
       (λ s gets items. (o : Inner) × IsOf family o × HaveAll s.context (types.Ref o ∷ []) items
-          × gets (Known.Of (types.Ref o)))
+      × gets (Known.Of (types.Ref o)))
   pub number : (family : Family) (a : Plain) →
       Meets (takes.Two (Own (tests.Object family)) (Fixed a))
       (λ s gets items. (o : Inner) × IsOf family o
-          × HaveAll s.context (types.Ref o ∷ plain_type a ∷ []) items
-          × gets (Known.Of (types.Ref o)))
+      × HaveAll s.context (types.Ref o ∷ plain_type a ∷ []) items
+      × gets (Known.Of (types.Ref o)))
   pub timeout : (family : Family) (a b : Plain) →
       Meets (takes.Four (Own (tests.Object family)) Mode (Fixed a) (Fixed b))
       (λ s gets items. (o : Inner) × IsOf family o × TimeoutOf (types.Ref o) a b s items
-          × gets (Known.Of (types.Ref o)))
+      × gets (Known.Of (types.Ref o)))
 
 -- rows on an object of a family and items in it; `of` makes the type of the object of theirs
 pub record ItemRows (family : Family) (of : ValueType → Inner) : Type 0 where
   pub objects : (o : Inner) → IsOf family o → (t : ValueType) × (o ≡ of t)
   pub item : Meets (takes.Two (Own (tests.Object family)) (Part parts.First))
       (λ s gets items. (t : ValueType) × HaveAll s.context (types.Ref (of t) ∷ t ∷ []) items
-          × gets (Known.Of (types.Ref (of t))))
+      × gets (Known.Of (types.Ref (of t))))
   pub place : (a : Plain) →
       Meets (takes.Three (Own (tests.Object family)) (Fixed a) (Part parts.First))
       (λ s gets items. (t : ValueType)
-          × HaveAll s.context (types.Ref (of t) ∷ plain_type a ∷ t ∷ []) items
-          × gets (Known.Of (types.Ref (of t))))
+      × HaveAll s.context (types.Ref (of t) ∷ plain_type a ∷ t ∷ []) items
+      × gets (Known.Of (types.Ref (of t))))
   pub target : (s : Setting) (t : ValueType) →
       Gets s (gives.Part parts.First) (Known.Of (types.Ref (of t))) → s.target ≡ Some t
 
@@ -136,13 +138,13 @@ pub record MapRows : Type 0 where
       (k : ValueType) × (v : ValueType) × (o ≡ inners.Map k v)
   pub key : Meets (takes.Two (Own (tests.Object families.Map)) (Part parts.First))
       (λ s gets items. (k : ValueType) × (v : ValueType)
-          × HaveAll s.context (types.Ref (inners.Map k v) ∷ k ∷ []) items
-          × gets (Known.Of (types.Ref (inners.Map k v))))
+      × HaveAll s.context (types.Ref (inners.Map k v) ∷ k ∷ []) items
+      × gets (Known.Of (types.Ref (inners.Map k v))))
   pub value : Meets
       (takes.Three (Own (tests.Object families.Map)) (Part parts.First) (Part parts.Second))
       (λ s gets items. (k : ValueType) × (v : ValueType)
-          × HaveAll s.context (types.Ref (inners.Map k v) ∷ k ∷ v ∷ []) items
-          × gets (Known.Of (types.Ref (inners.Map k v))))
+      × HaveAll s.context (types.Ref (inners.Map k v) ∷ k ∷ v ∷ []) items
+      × gets (Known.Of (types.Ref (inners.Map k v))))
   pub target : (s : Setting) (k v : ValueType) →
       Gets s (gives.Part parts.Second) (Known.Of (types.Ref (inners.Map k v))) → s.target ≡ Some v
 
@@ -152,15 +154,35 @@ pub record StructRows : Type 0 where
       (λ s gets items. (f : FieldOfStruct [] s items) × gets (Known.Of f.kind))
   pub value : Meets (takes.Three (Own (tests.Object families.Struct)) Field Same)
       (λ s gets items. (x : Operand) × (f : FieldOfStruct (x ∷ []) s items)
-          × Has s.context f.kind x × gets (Known.Of f.kind))
+      × Has s.context f.kind x × gets (Known.Of f.kind))
 
 -- rows on tuples
 pub record TupleRows : Type 0 where
   pub make : Meets (takes.One Parts)
       (λ s gets items. (p : TupleParts s items)
-          × gets (Known.Of (types.Tuple (map given p.values))))
+      × gets (Known.Of (types.Tuple (map given p.values))))
   pub get : Meets (takes.Two (Own tests.Tuple) Index)
       (λ s gets items. (p : PartOfTuple s items) × gets (Known.Of p.kind))
+
+-- rows on a classifier
+pub record ClassifierRows : Type 0 where
+  pub objects : (o : Inner) → IsOf families.Classifier o →
+      (r : ValueType) × (v : ValueType) × (o ≡ inners.Classifier r v)
+  pub add : (a : Plain) →
+      Meets (takes.Four (Own (tests.Object families.Classifier)) Rule (Fixed a) (Part parts.Second))
+      (λ s gets items. (r : ValueType) × (v : ValueType) × RuleAndValue a r v s items
+      × gets (Known.Of (types.Ref (inners.Classifier r v))))
+  pub ask : Meets (takes.Two (Own (tests.Object families.Classifier)) Query)
+      (λ s gets items. (r : ValueType) × (v : ValueType) × ClassifierAsked r v s items
+      × gets (Known.Of (types.Ref (inners.Classifier r v))))
+  pub target : (s : Setting) (r v : ValueType) →
+      Gets s (gives.Part parts.Second) (Known.Of (types.Ref (inners.Classifier r v))) →
+      s.target ≡ Some v
+
+-- rows on overlays and their fields
+abbrev pub OverlayRows : Type 0
+OverlayRows = (a b : Plain) → Meets (takes.Four Overlay OverlayField (Fixed a) (Fixed b))
+    (λ s gets items. (f : FieldOfOverlay a b s items) × gets (Known.Of f.field.kind))
 
 -- which types pass the tests of a whole number, a tuple and an iterator
 pub record PassedTests : Type 0 where

@@ -1,9 +1,14 @@
 //! Laws of typed lines. They do nothing: a caller learns what they ensure.
+ghost use Rattle.std.specs.Prelude.{ℕ};
 ghost use Rattle.hilti_types.specs.declared.value_type.Inner.TheVariants as inners;
 ghost use Rattle.hilti_table.specs.declared.row.Family.TheVariants as families;
+ghost use Rattle.hilti_program.specs.declared.parts.Function.{Function as Body};
+ghost use Rattle.hilti_program.specs.declared.parts.Parts.{Parts as Whole};
+ghost use Rattle.hilti_typing.specs.Examples.{FittingLines, RefusedLines};
 ghost use Rattle.hilti_typing.specs.Laws.{PlainRows, NumberRows, OwnRows, FlowRows, CallRows};
 ghost use Rattle.hilti_typing.specs.Laws.{ObjectRows, ItemRows, MapRows, StructRows, TupleRows};
-ghost use Rattle.hilti_typing.specs.Laws.{PassedTests, Targets};
+ghost use Rattle.hilti_typing.specs.Laws.{ClassifierRows, OverlayRows, PassedTests, Targets};
+ghost use Rattle.hilti_typing.specs.ProgramLaws.{TypedBlocksEnd, NamedParts};
 
 /// Rows on plain types meet values of the types that they name, and their target is of the type that they name.
 pub fn plain_rows()
@@ -60,6 +65,16 @@ pub fn tuple_rows()
     ensures { TupleRows }
 {}
 
+/// Rows on a classifier meet a rule, or what is asked for, with a value for each part of the rules.
+pub fn classifier_rows()
+    ensures { ClassifierRows }
+{}
+
+/// `overlay.get` meets an overlay and one of its fields, and its target is of the type of the field.
+pub fn overlay_rows()
+    ensures { OverlayRows }
+{}
+
 /// Only whole numbers, tuples and iterators pass the tests that ask for them.
 pub fn passed_tests()
     ensures { PassedTests }
@@ -69,4 +84,22 @@ pub fn passed_tests()
 /// what a known iterator gives.
 pub fn targets()
     ensures { Targets }
+{}
+
+/// A typed block ends with an ending instruction, and has none before it.
+pub fn typed_blocks_end()
+    ensures { TypedBlocksEnd }
+{}
+
+/// What typed lines and handlers name is there: the block of a handler and of a `jump`, and the function of a `call`,
+/// with arguments of the types of its parameters and a target, if one, of the type of its result.
+pub fn named_parts()
+    ensures { (parts : Whole) (at : ℕ) (f : Body) → NamedParts parts at f }
+{}
+
+/// Some lines that are typed in a body, and some that aren't: with a number of another width, a target or an item of
+/// another type, a block that isn't there, a timer that is sent, a result of a void function, or an operand too many.
+pub fn examples()
+    ensures fitting { FittingLines }
+    ensures refused { RefusedLines }
 {}
