@@ -22,7 +22,7 @@ fn run(rt: &HostRuntime) -> Status {
             rt.alloc(),
             words.as_slice(),
             &mut DiskFiles::new(rt),
-            &mut OutSink::new(rt),
+            &mut OutSink::new(io::writer(rt)),
         ),
         Err(error) if error.kind() == ErrorKind::OutOfMemory => Status::NoMemory,
         // A word isn't UTF-8.

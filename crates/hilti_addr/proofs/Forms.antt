@@ -1,106 +1,183 @@
--- What stands at the front of a text that has a form is what was read there.
-use Rattle.std.proofs.Common.{◌≡◌, ◌≢◌, ℕ, ◌+◌, ◌*◌, ◌^◌, ◌<◌, List, [], ◌∷◌, ◌++◌, length, get_or, refl, sym, ap, ◌∙◌, subst, arith}
+-- What stands at the front of a text that has a form is what was read there, and it has one value.
+use Rattle.std.proofs.Common.{◌≡◌, ◌≢◌, ℕ, ◌+◌, ◌*◌, ◌^◌, ◌<◌, List, ◌∷◌, ◌++◌, get_or, refl, sym, ap, ◌∙◌, subst, arith, Bool, true, false}
+use Rattle.hilti_base.specs.Numerals.{IsNumber, IsSplit, Lacks}
+use Rattle.hilti_base.proofs.Splits.{behind_number, digits_lack, joined_lack, nowhere, one_number, one_split, longer_lacks}
 use Rattle.hilti_addr.specs.declared.net.Net.{Net}
 use Rattle.hilti_addr.specs.declared.port.Port.{Port}
 use Rattle.hilti_addr.specs.Masks.{mapped}
-use Rattle.hilti_addr.specs.Texts.{IsAddress, IsNet, IsNumber, IsPort, protocol}
-use Rattle.hilti_addr.proofs.Splits.{Lacks, digits_lack, joined_lack, lacks_by_place, one_split, somewhere}
+use Rattle.hilti_addr.specs.Texts.{IsAddress, IsNet, IsPart, IsPort, net_of, protocol}
 
-number_lacks : (at most : ℕ) (text : List ℕ) (n : ℕ) → at < 48 → IsNumber most text n → Lacks at text
-number_lacks at most text n low is = digits_lack at text low is.digits.1
-
--- the texts of numbers that are behind a point determine what is behind the points
-pub same_rest : (most : ℕ) (text front back front' back' : List ℕ) (n n' : ℕ) → text ≡ front ++ 46 ∷ back → IsNumber most front n
-    → text ≡ front' ++ 46 ∷ back' → IsNumber most front' n' → back ≡ back'
-same_rest most text front back front' back' n n' e is e' is' =
-    let both = one_split 46 front front' back back' (number_lacks 46 most front n (omega arith) is) (number_lacks 46 most front' n' (omega arith) is') (sym e ∙ e') in both.1
+part_splits : (text : List ℕ) (n : ℕ) (rest : List ℕ) → (is : IsPart text n rest) → IsSplit 46 text is.front rest
+part_splits text n rest is = behind_number 46 255 text is.front rest n (omega arith) is.parts is.number
 
 -- no part: there is no point, or what is before the first is no number
-pub no_part : (text front back : List ℕ) → text ≡ front ++ 46 ∷ back → ((k : ℕ) → k < length front → get_or front k 0 ≢ 46)
-    → ((n : ℕ) → ¬ (IsNumber 255 front n)) → (front' back' : List ℕ) (n : ℕ) → text ≡ front' ++ 46 ∷ back' → ¬ (IsNumber 255 front' n)
-no_part text front back e first none front' back' n e' is =
-    let both = one_split 46 front front' back back' (lacks_by_place 46 front first) (number_lacks 46 255 front' n (omega arith) is) (sym e ∙ e') in
-    none n (subst (λ f. IsNumber 255 f n) (sym both.0) is)
+pub no_point : (text : List ℕ) → Lacks 46 text → (n : ℕ) (rest : List ℕ) → ¬ (IsPart text n rest)
+no_point text lacks n rest is = nowhere 46 text is.front rest lacks is.parts
 
--- one part is read, and the rest is left
-abbrev pub Begins : List ℕ → ℕ → List ℕ → Type 0
-Begins text n rest = (front : List ℕ) × (text ≡ front ++ 46 ∷ rest) × IsNumber 255 front n
+pub no_part : (text front back : List ℕ) → IsSplit 46 text front back → ((n : ℕ) → ¬ (IsNumber 255 front n))
+    → (n : ℕ) (rest : List ℕ) → ¬ (IsPart text n rest)
+no_part text front back split none n rest is =
+    let both = one_split 46 text front is.front back rest split (part_splits text n rest is) in
+    none n (subst (λ f. IsNumber 255 f n) (sym both.0) is.number)
+
+one_part : (text : List ℕ) (n n' : ℕ) (rest rest' : List ℕ) → IsPart text n rest → IsPart text n' rest'
+    → (n ≡ n') × (rest ≡ rest')
+one_part text n n' rest rest' is is' =
+    let both = one_split 46 text is.front is'.front rest rest' (part_splits text n rest is) (part_splits text n' rest' is') in
+    (one_number 255 is'.front n n' (subst (λ f. IsNumber 255 f n) both.0 is.number) is'.number, both.1)
+
+-- an address as three parts and a number
+first_part : (text : List ℕ) (address : ℕ) → (is : IsAddress text address)
+    → IsPart text is.a (is.second ++ 46 ∷ (is.third ++ 46 ∷ is.fourth))
+first_part text address is = record { front = is.first; parts = is.parts; number = is.at_first }
+
+second_part : (text : List ℕ) (address : ℕ) → (is : IsAddress text address)
+    → IsPart (is.second ++ 46 ∷ (is.third ++ 46 ∷ is.fourth)) is.b (is.third ++ 46 ∷ is.fourth)
+second_part text address is = record { front = is.second; parts = refl; number = is.at_second }
+
+third_part : (text : List ℕ) (address : ℕ) → (is : IsAddress text address)
+    → IsPart (is.third ++ 46 ∷ is.fourth) is.c is.fourth
+third_part text address is = record { front = is.third; parts = refl; number = is.at_third }
 
 abbrev pub NoPart : List ℕ → Type 0
-NoPart text = (front back : List ℕ) (n : ℕ) → text ≡ front ++ 46 ∷ back → ¬ (IsNumber 255 front n)
+NoPart text = (n : ℕ) (rest : List ℕ) → ¬ (IsPart text n rest)
 
 pub no_first : (text : List ℕ) → NoPart text → (address : ℕ) → ¬ (IsAddress text address)
-no_first text none address is = none is.first _ is.a is.parts is.at_first
+no_first text none address is = none is.a _ (first_part text address is)
 
-rest_after : (text : List ℕ) (n : ℕ) (rest : List ℕ) → Begins text n rest → (front back : List ℕ) (m : ℕ) → text ≡ front ++ 46 ∷ back → IsNumber 255 front m → rest ≡ back
-rest_after text n rest begins front back m e is = same_rest 255 text begins.0 rest front back n m begins.1 begins.2 e is
+-- what is left behind the parts that were read
+after_first : (text rest : List ℕ) (n : ℕ) → IsPart text n rest → (address : ℕ) → (is : IsAddress text address)
+    → (n ≡ is.a) × (rest ≡ is.second ++ 46 ∷ (is.third ++ 46 ∷ is.fourth))
+after_first text rest n part address is = one_part text n is.a rest _ part (first_part text address is)
 
-pub no_second : (text rest : List ℕ) (n : ℕ) → Begins text n rest → NoPart rest → (address : ℕ) → ¬ (IsAddress text address)
-no_second text rest n begins none address is =
-    let at : rest ≡ is.second ++ 46 ∷ (is.third ++ 46 ∷ is.fourth) = rest_after text n rest begins is.first _ is.a is.parts is.at_first in
-    none is.second _ is.b at is.at_second
+after_second : (text rest later : List ℕ) (n m : ℕ) → IsPart text n rest → IsPart rest m later → (address : ℕ)
+    → (is : IsAddress text address) → (m ≡ is.b) × (later ≡ is.third ++ 46 ∷ is.fourth)
+after_second text rest later n m part next address is =
+    let before = after_first text rest n part address is in
+    one_part _ m is.b later _ (subst (λ l. IsPart l m later) before.1 next) (second_part text address is)
 
-pub no_third : (text rest last : List ℕ) (n m : ℕ) → Begins text n rest → Begins rest m last → NoPart last → (address : ℕ) → ¬ (IsAddress text address)
-no_third text rest last n m begins goes none address is =
-    let at : rest ≡ is.second ++ 46 ∷ (is.third ++ 46 ∷ is.fourth) = rest_after text n rest begins is.first _ is.a is.parts is.at_first in
-    let at_last : last ≡ is.third ++ 46 ∷ is.fourth = rest_after rest m last goes is.second _ is.b at is.at_second in
-    none is.third _ is.c at_last is.at_third
+after_third : (text rest later last : List ℕ) (n m k : ℕ) → IsPart text n rest → IsPart rest m later
+    → IsPart later k last → (address : ℕ) → (is : IsAddress text address) → (k ≡ is.c) × (last ≡ is.fourth)
+after_third text rest later last n m k part next third address is =
+    let before = after_second text rest later n m part next address is in
+    one_part _ k is.c last _ (subst (λ l. IsPart l k last) before.1 third) (third_part text address is)
 
-pub no_fourth : (text rest later last : List ℕ) (n m k : ℕ) → Begins text n rest → Begins rest m later → Begins later k last
-    → ((d : ℕ) → ¬ (IsNumber 255 last d)) → (address : ℕ) → ¬ (IsAddress text address)
-no_fourth text rest later last n m k begins goes ends none address is =
-    let at : rest ≡ is.second ++ 46 ∷ (is.third ++ 46 ∷ is.fourth) = rest_after text n rest begins is.first _ is.a is.parts is.at_first in
-    let at_later : later ≡ is.third ++ 46 ∷ is.fourth = rest_after rest m later goes is.second _ is.b at is.at_second in
-    let at_last : last ≡ is.fourth = rest_after later k last ends is.third _ is.c at_later is.at_third in
-    none is.d (subst (λ f. IsNumber 255 f is.d) (sym at_last) is.at_fourth)
+pub no_second : (text rest : List ℕ) (n : ℕ) → IsPart text n rest → NoPart rest → (address : ℕ)
+    → ¬ (IsAddress text address)
+no_second text rest n part none address is =
+    let before = after_first text rest n part address is in
+    none is.b _ (subst (λ l. IsPart l is.b (is.third ++ 46 ∷ is.fourth)) (sym before.1) (second_part text address is))
 
-pub address_lacks : (text : List ℕ) (address : ℕ) → IsAddress text address → Lacks 47 text
-address_lacks text address is =
-    let low : 47 < 48 = omega arith in
-    let point : 46 ≢ 47 = λ same. omega (arith, same) in
-    subst (Lacks 47) (sym is.parts)
-    (joined_lack 47 is.first _ (number_lacks 47 255 is.first is.a low is.at_first) (
-      point,
-      joined_lack 47 is.second _ (number_lacks 47 255 is.second is.b low is.at_second) (
-        point,
-        joined_lack 47 is.third _ (number_lacks 47 255 is.third is.c low is.at_third) (point, number_lacks 47 255 is.fourth is.d low is.at_fourth),
-      ),
-    ))
+pub no_third : (text rest later : List ℕ) (n m : ℕ) → IsPart text n rest → IsPart rest m later → NoPart later
+    → (address : ℕ) → ¬ (IsAddress text address)
+no_third text rest later n m part next none address is =
+    let before = after_second text rest later n m part next address is in
+    none is.c _ (subst (λ l. IsPart l is.c is.fourth) (sym before.1) (third_part text address is))
 
--- a net's text, from what stands around the first slash
-pub net_parts : (text front back : List ℕ) (net : Net) → text ≡ front ++ 47 ∷ back → ((k : ℕ) → k < length front → get_or front k 0 ≢ 47)
-    → (is : IsNet text net) → IsAddress front is.address × IsNumber 32 back is.len
-net_parts text front back net e first is =
-    let both = one_split 47 front is.front back is.back (lacks_by_place 47 front first) (address_lacks is.front is.address is.at_front) (sym e ∙ is.parts) in
-    (subst (λ f. IsAddress f is.address) (sym both.0) is.at_front, subst (λ f. IsNumber 32 f is.len) (sym both.1) is.at_back)
+pub no_fourth : (text rest later last : List ℕ) (n m k : ℕ) → IsPart text n rest → IsPart rest m later
+    → IsPart later k last → ((d : ℕ) → ¬ (IsNumber 255 last d)) → (address : ℕ) → ¬ (IsAddress text address)
+no_fourth text rest later last n m k part next third none address is =
+    let before = after_third text rest later last n m k part next third address is in
+    none is.d (subst (λ f. IsNumber 255 f is.d) (sym before.1) is.at_fourth)
 
-pub no_slash_net : (text : List ℕ) → ((k : ℕ) → k < length text → get_or text k 0 ≢ 47) → (net : Net) → ¬ (IsNet text net)
-no_slash_net text nowhere net is = somewhere 47 text is.front is.back is.parts nowhere
-
-pub port_parts : (text front back : List ℕ) (port : Port) → text ≡ front ++ 47 ∷ back → ((k : ℕ) → k < length front → get_or front k 0 ≢ 47)
-    → IsPort text port → IsNumber 65535 front port.number × (back ≡ protocol port.udp)
-port_parts text front back port e first is =
-    let both = one_split 47 front is.front back (protocol port.udp) (lacks_by_place 47 front first) (number_lacks 47 65535 is.front port.number (omega arith) is.at_front) (sym e ∙ is.parts) in
-    (subst (λ f. IsNumber 65535 f port.number) (sym both.0) is.at_front, both.1)
-
-pub no_slash_port : (text : List ℕ) → ((k : ℕ) → k < length text → get_or text k 0 ≢ 47) → (port : Port) → ¬ (IsPort text port)
-no_slash_port text nowhere port is = somewhere 47 text is.front (protocol port.udp) is.parts nowhere
-
-pub an_address : (text rest later last : List ℕ) (a b c d address : ℕ) → Begins text a rest → Begins rest b later → Begins later c last → IsNumber 255 last d
-    → address ≡ mapped (a * 2 ^ 24 + b * 2 ^ 16 + c * 2 ^ 8 + d) → IsAddress text address
-an_address text rest later last a b c d address begins goes ends is value = record {
-  first = begins.0;
-  second = goes.0;
-  third = ends.0;
+pub an_address : (text rest later last : List ℕ) (a b c d address : ℕ) → IsPart text a rest → IsPart rest b later
+    → IsPart later c last → IsNumber 255 last d → address ≡ mapped (a * 2 ^ 24 + b * 2 ^ 16 + c * 2 ^ 8 + d)
+    → IsAddress text address
+an_address text rest later last a b c d address part next third is value = record {
+  first = part.front;
+  second = next.front;
+  third = third.front;
   fourth = last;
   a = a;
   b = b;
   c = c;
   d = d;
-  parts = begins.1 ∙ ap (λ l. begins.0 ++ 46 ∷ l) (goes.1 ∙ ap (λ l. goes.0 ++ 46 ∷ l) ends.1);
-  at_first = begins.2;
-  at_second = goes.2;
-  at_third = ends.2;
+  parts = part.parts ∙ ap (λ l. part.front ++ 46 ∷ l) (next.parts ∙ ap (λ l. next.front ++ 46 ∷ l) third.parts);
+  at_first = part.number;
+  at_second = next.number;
+  at_third = third.number;
   at_fourth = is;
   value = value;
 }
+
+pub one_address : (text : List ℕ) (address address' : ℕ) → IsAddress text address → IsAddress text address'
+    → address ≡ address'
+one_address text address address' is is' =
+    let first = after_first text _ is.a (first_part text address is) address' is' in
+    let second = after_second text _ _ is.a is.b (first_part text address is) (second_part text address is) address' is' in
+    let third =
+    after_third text _ _ is.fourth is.a is.b is.c (first_part text address is) (second_part text address is)
+    (third_part text address is) address' is' in
+    let a : is.a ≡ is'.a = first.0 in
+    let b : is.b ≡ is'.b = second.0 in
+    let c : is.c ≡ is'.c = third.0 in
+    let d : is.d ≡ is'.d
+    = one_number 255 is'.fourth is.d is'.d (subst (λ f. IsNumber 255 f is.d) third.1 is.at_fourth) is'.at_fourth in
+    let value = is.value in let value' = is'.value in
+    omega (arith, value, value', a, b, c, d)
+
+-- no address has a slash
+part_lacks : (text front rest : List ℕ) → text ≡ front ++ 46 ∷ rest → (n : ℕ) → IsNumber 255 front n → Lacks 47 rest
+    → Lacks 47 text
+part_lacks text front rest e n is lacks =
+    let low : 47 < 48 = omega arith in
+    let point : 46 ≢ 47 = λ (same : 46 ≡ 47). omega (arith, same) in
+    subst (Lacks 47) (sym e)
+    (joined_lack 47 front (46 ∷ rest) (digits_lack 47 front low is.digits.1) (longer_lacks 47 46 rest point lacks))
+
+pub address_lacks : (text : List ℕ) (address : ℕ) → IsAddress text address → Lacks 47 text
+address_lacks text address is =
+    part_lacks text is.first _ is.parts is.a is.at_first
+    (part_lacks _ is.second _ refl is.b is.at_second
+    (part_lacks _ is.third is.fourth refl is.c is.at_third (digits_lack 47 is.fourth (omega arith) is.at_fourth.digits.1)))
+
+-- a net's text, from what stands around the first slash
+net_splits : (text : List ℕ) (net : Net) → (is : IsNet text net) → IsSplit 47 text is.front is.back
+net_splits text net is = record { parts = is.parts; first = address_lacks is.front is.address is.at_front }
+
+pub net_parts : (text front back : List ℕ) (net : Net) → IsSplit 47 text front back → (is : IsNet text net)
+    → IsAddress front is.address × IsNumber 32 back is.len
+net_parts text front back net split is =
+    let both = one_split 47 text front is.front back is.back split (net_splits text net is) in (
+      subst (λ f. IsAddress f is.address) (sym both.0) is.at_front,
+      subst (λ f. IsNumber 32 f is.len) (sym both.1) is.at_back,
+    )
+
+pub no_slash_net : (text : List ℕ) → Lacks 47 text → (net : Net) → ¬ (IsNet text net)
+no_slash_net text lacks net is = nowhere 47 text is.front is.back lacks is.parts
+
+pub one_net : (text : List ℕ) (net net' : Net) → IsNet text net → IsNet text net' → net ≡ net'
+one_net text net net' is is' =
+    let parts = net_parts text is'.front is'.back net (net_splits text net' is') is in
+    let address : is.address ≡ is'.address = one_address is'.front is.address is'.address parts.0 is'.at_front in
+    let len : is.len ≡ is'.len = one_number 32 is'.back is.len is'.len parts.1 is'.at_back in
+    is.value ∙ ap (λ n. net_of n is.len) address ∙ ap (λ n. net_of is'.address n) len ∙ sym is'.value
+
+-- a port's text, likewise
+port_splits : (text : List ℕ) (port : Port) → (is : IsPort text port) → IsSplit 47 text is.front (protocol port.udp)
+port_splits text port is =
+    behind_number 47 65535 text is.front (protocol port.udp) port.number (omega arith) is.parts is.at_front
+
+pub port_parts : (text front back : List ℕ) (port : Port) → IsSplit 47 text front back → IsPort text port
+    → IsNumber 65535 front port.number × (back ≡ protocol port.udp)
+port_parts text front back port split is =
+    let both = one_split 47 text front is.front back (protocol port.udp) split (port_splits text port is) in
+    (subst (λ f. IsNumber 65535 f port.number) (sym both.0) is.at_front, both.1)
+
+pub no_slash_port : (text : List ℕ) → Lacks 47 text → (port : Port) → ¬ (IsPort text port)
+no_slash_port text lacks port is = nowhere 47 text is.front (protocol port.udp) lacks is.parts
+
+one_protocol : (udp udp' : Bool) → protocol udp ≡ protocol udp' → udp ≡ udp'
+one_protocol true true e = refl
+one_protocol false false e = refl
+one_protocol true false e =
+    let first : 117 ≡ 116 = ap (λ l. get_or l 0 0) e in absurd (omega (arith, first))
+one_protocol false true e =
+    let first : 116 ≡ 117 = ap (λ l. get_or l 0 0) e in absurd (omega (arith, first))
+
+pub one_port : (text : List ℕ) (port port' : Port) → IsPort text port → IsPort text port' → port ≡ port'
+one_port text port port' is is' =
+    let parts = port_parts text is'.front (protocol port'.udp) port (port_splits text port' is') is in
+    let number : port.number ≡ port'.number = one_number 65535 is'.front port.number port'.number parts.0 is'.at_front in
+    let udp : port.udp ≡ port'.udp = one_protocol port.udp port'.udp (sym parts.1) in
+    λ i. record { number = number i; udp = udp i }

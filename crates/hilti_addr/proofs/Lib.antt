@@ -1,3 +1,1 @@
-pub mod Digits
 pub mod Forms
-pub mod Splits

@@ -1,16 +1,15 @@
 -- The texts of addresses, nets and ports.
-use Rattle.std.specs.Prelude.{◌≡◌, ◌≢◌, ◌⊎◌, ℕ, ◌+◌, ◌*◌, ◌^◌, ◌≤◌, Bool, if◌then◌else◌, List, [], ◌∷◌, ◌++◌, length, slice_index}
-use Rattle.std.specs.Str.Parse.{digits_value, IsNumeral}
+use Rattle.std.specs.Prelude.{◌≡◌, ℕ, ◌+◌, ◌*◌, ◌^◌, Bool, if◌then◌else◌, List, [], ◌∷◌, ◌++◌}
+use Rattle.hilti_base.specs.Numerals.{IsNumber}
 use Rattle.hilti_addr.specs.declared.net.Net.{Net}
 use Rattle.hilti_addr.specs.declared.port.Port.{Port}
 use Rattle.hilti_addr.specs.Masks.{mapped, masked}
 
--- `0`, or decimal digits without a leading zero, of a number up to a greatest
-pub record IsNumber (most : ℕ) (text : List ℕ) (n : ℕ) : Type 0 where
-  pub digits : IsNumeral 10 text
-  pub plain : (length text ≡ 1) ⊎ (slice_index text 0 ≢ 48)
-  pub value : n ≡ digits_value 10 text
-  pub small : n ≤ most
+-- a number up to 255 and a point, with the rest behind it
+pub record IsPart (text : List ℕ) (n : ℕ) (rest : List ℕ) : Type 0 where
+  pub front : List ℕ
+  pub parts : text ≡ front ++ 46 ∷ rest
+  pub number : IsNumber 255 front n
 
 -- four numbers up to 255, joined by points
 pub record IsAddress (text : List ℕ) (address : ℕ) : Type 0 where

@@ -88,15 +88,3 @@ fn reads_texts(rt: HostRuntime) -> Result<(), Fail> {
     }
     Ok(())
 }
-
-#[test]
-fn reads_parts(rt: HostRuntime) {
-    assert_eq!(rt; read_number(b"65535", 65535), Some(65535));
-    assert_eq!(rt; read_number(b"65536", 65535), None);
-    assert_eq!(rt; read_number(b"07", 10), None);
-    assert_eq!(rt;
-        split_at_byte(b"a/b/c", b'/'),
-        Some((b"a".as_slice(), b"b/c".as_slice()))
-    );
-    assert_eq!(rt; split_at_byte(b"abc", b'/'), None);
-}

@@ -1,11 +1,11 @@
-ghost use Rattle.std.specs.Prelude.{◌≡◌, ◌≢◌, ℕ, ◌≤◌, ◌∷◌, ◌++◌, Bool, List, IfSome, IsNone};
+ghost use Rattle.std.specs.Prelude.{◌≡◌, ◌≢◌, ℕ, ◌≤◌, Bool, List, IfSome, IsNone};
 ghost use Rattle.hilti_addr.specs.declared.net.Net.{Net};
 ghost use Rattle.hilti_addr.specs.declared.port.Port.{Port};
-ghost use Rattle.hilti_addr.specs.Texts.{IsAddress, IsNet, IsNumber, IsPort, protocol};
+ghost use Rattle.hilti_addr.specs.Texts.{IsAddress, IsNet, IsPart, IsPort, protocol};
 
 use crate::net::{Net, make_net, v4};
-use crate::numeral::{read_number, split_at_byte};
 use crate::port::Port;
+use hilti_base::{read_number, split_at_byte};
 
 /// The address of four decimal numbers up to 255 without leading zeros, joined by points. `None` exactly for any other
 /// text.
@@ -48,18 +48,18 @@ pub fn read_port(text: &[u8]) -> Option<Port>
     })
 }
 
-// A number up to 255 before the first point, and what stands behind the point.
+/// A number up to 255 before the first point, and what stands behind the point.
 fn read_part(text: &[u8]) -> Option<(u64, &[u8])>
-    ensures some { IfSome result (λ part. (front : List ℕ) × (text.now ≡ front ++ 46 ∷ part.1.now) × IsNumber 255 front part.0) }
+    ensures some { IfSome result (λ part. IsPart text.now part.0 part.1.now) }
     ensures small { IfSome result (λ part. part.0 ≤ 255) }
-    ensures none { IsNone result → (front back : List ℕ) (n : ℕ) → text.now ≡ front ++ 46 ∷ back → ¬ (IsNumber 255 front n) }
+    ensures none { IsNone result → (n : ℕ) (rest : List ℕ) → ¬ (IsPart text.now n rest) }
 {
     let (front, back) = split_at_byte(text, b'.')?;
     let number = read_number(front, 255)?;
     Some((number, back))
 }
 
-// Whether the word is `udp`, where it is `udp` or `tcp`.
+/// Whether the word is `udp`, where it is `udp` or `tcp`.
 fn read_protocol(word: &[u8]) -> Option<bool>
     ensures some { IfSome result (λ udp. word.now ≡ protocol udp) }
     ensures none { IsNone result → (udp : Bool) → word.now ≢ protocol udp }

@@ -1,10 +1,10 @@
-ghost use Rattle.std.specs.Prelude.{◌≡◌, ◌^◌, ◌<◌, ◌≤◌, length, IsOkUnless, SomeIff};
+ghost use Rattle.std.specs.Prelude.{◌≤◌, length, IsOkUnless};
 ghost use Rattle.std.specs.Result.{OkIff};
-ghost use Rattle.std.specs.Str.Parse.{digits_value, IsNumeral};
+ghost use Rattle.std.specs.Str.Parse.{digits_value};
 ghost use Rattle.hilti_bytes.specs.Values.{IsInteger, number_of};
 
 use byteorder::{BigEndian, ByteOrder, LittleEndian};
-use hilti_base::Raise;
+use hilti_base::{Raise, read_digits};
 
 /// The number that digits of base 10 or 16 write, letters in either case. `ValueError` exactly where the base is
 /// another, there is no digit, a byte is no digit of the base, or the number is 2^64 or more.
@@ -19,21 +19,6 @@ pub fn to_int(b: &[u8], base: u8) -> Result<u64, Raise>
         return Err(Raise::ValueError);
     };
     Ok(value)
-}
-
-// The number that digits of a base write.
-fn read_digits(text: &[u8], base: u32) -> Option<u64>
-    requires two { 2 ≤ base }
-    requires most { base ≤ 36 }
-    ensures { SomeIff result (IsNumeral base text.now × (digits_value base text.now < 2 ^ 64)) (digits_value base text.now) }
-{
-    if text.first() == Some(&b'+') {
-        return None;
-    }
-    let Ok(digits) = str::from_utf8(text) else {
-        return None;
-    };
-    u64::from_str_radix(digits, base).ok()
 }
 
 /// The number whose 1 to 8 bytes these are, the highest first where `big`, else the lowest first. `ValueError` exactly

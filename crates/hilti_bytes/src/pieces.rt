@@ -1,7 +1,7 @@
 ghost use Rattle.std.specs.Prelude.{◌≡◌, ℕ, ◌+◌, ◌<◌, ◌≤◌, ◌++◌, ◌↔◌, List, length, take, drop, slice_index, Err, IfErr, IfOk, IfSome, IsNone, IsOkUnless, IsTrue, OnOk};
 ghost use Rattle.std.specs.Result.{OkIff};
 ghost use Rattle.hilti_base.specs.declared.refusal.Raise.{Raise};
-ghost use Rattle.hilti_bytes.specs.Pieces.{StandsAt};
+ghost use Rattle.hilti_bytes.specs.Pieces.{AreTooMany, StandsAt, most_bytes};
 
 use crate::fault::BytesFault;
 use hilti_base::{Blob, Raise};
@@ -31,9 +31,10 @@ pub fn sub(b: &[u8], at: u64, count: u64) -> Result<&[u8], Raise>
 /// taken then.
 pub fn join(alloc: Global, a: &[u8], b: &[u8]) -> Result<Blob, BytesFault>
     ensures joined { IfOk result (λ joined. joined ≡ a.now ++ b.now) }
-    ensures short { OnOk result (length a.now + length b.now ≤ 16777216) }
-    ensures raise { (raise : Raise) → result ≡ Err (BytesFault.Raise raise) → (raise ≡ Raise.ValueError) × (16777216 < length a.now + length b.now) }
-    ensures long { 16777216 < length a.now + length b.now → result ≡ Err (BytesFault.Raise Raise.ValueError) }
+    ensures short { OnOk result (length a.now + length b.now ≤ most_bytes) }
+    ensures raise { (raise : Raise) → result ≡ Err (BytesFault.Raise raise)
+        → (raise ≡ Raise.ValueError) × AreTooMany a.now b.now }
+    ensures long { AreTooMany a.now b.now → result ≡ Err (BytesFault.Raise Raise.ValueError) }
 {
     if a.len() > MOST_BYTES || b.len() > MOST_BYTES - a.len() {
         return Err(BytesFault::Raise(Raise::ValueError));

@@ -31,7 +31,8 @@ impl<K: Eq, V> Model for Classifier<K, V> {
 
     ghost Value = { RuleSet K V };
 
-    ghost view = { λ classifier. record { rules = classifier.rules.items; compiled = classifier.compiled } };
+    ghost view = { λ classifier.
+        record { rules = classifier.rules.items; compiled = classifier.compiled } };
 
     ghost invariant = { λ classifier. AreRules classifier.rules.items };
 }
@@ -78,7 +79,8 @@ impl<K: Eq, V> Classifier<K, V> {
 
     /// The value of the rule at a place, counted from 0 in order of adding; `None` exactly past the rules.
     pub fn value(&self, at: usize) -> Option<&V>
-        ensures { option_copied result ≡ option_map (λ rule. rule.value) (slice_get self.now.rules at) }
+        ensures { option_copied result
+            ≡ option_map (λ rule. rule.value) (slice_get self.now.rules at) }
     {
         match self.rules.get(at) {
             Some(rule) => Some(&rule.value),
@@ -102,8 +104,10 @@ impl<K: Eq, V> Classifier<K, V> {
     pub fn get(&self, query: &Fields<K>) -> Got
         requires { All (λ rule. length rule.wants ≡ length query.now) self.now.rules }
         ensures not_compiled { (result ≡ Got.NotCompiled) ↔ IsFalse self.now.compiled }
-        ensures none { (result ≡ Got.None) ↔ (IsTrue self.now.compiled × NothingMatches K.eq self.now.rules query.now) }
-        ensures at { (at : ℕ) → (result ≡ Got.At at) ↔ (IsTrue self.now.compiled × IsFirstMatch K.eq self.now.rules query.now at) }
+        ensures none { (result ≡ Got.None)
+            ↔ (IsTrue self.now.compiled × NothingMatches K.eq self.now.rules query.now) }
+        ensures at { (at : ℕ) → (result ≡ Got.At at)
+            ↔ (IsTrue self.now.compiled × IsFirstMatch K.eq self.now.rules query.now at) }
     {
         if !self.compiled {
             return Got::NotCompiled;
@@ -125,7 +129,8 @@ impl<K: Eq + Drop, V: Drop> Classifier<K, V> {
         requires nets { All HasShortNet wants }
         ensures compiled { (result ≡ Ok Added.Compiled) ↔ IsTrue self.old.compiled }
         ensures kept { self.new.compiled ≡ self.old.compiled }
-        ensures added { result ≡ Ok Added.Ok → self.new.rules ≡ self.old.rules ++ record { wants = wants; priority = priority; value = value } ∷ [] }
+        ensures added { result ≡ Ok Added.Ok → self.new.rules
+            ≡ self.old.rules ++ record { wants = wants; priority = priority; value = value } ∷ [] }
         ensures refused { result ≡ Ok Added.Compiled → self.new.rules ≡ self.old.rules }
         ensures err { OnErr result (self.new.rules ≡ self.old.rules) }
     {
@@ -142,7 +147,7 @@ impl<K: Eq + Drop, V: Drop> Classifier<K, V> {
 }
 
 impl<K: Eq, V> Rule<K, V> {
-    // Whether each field fits what the rule asks of it.
+    /// Whether each field fits what the rule asks of it.
     fn matches(&self, query: &[Field<K>]) -> bool
         requires nets { HasShortNets self.now }
         requires alike { length self.now.wants ≡ length query.now }
@@ -157,14 +162,14 @@ impl<K: Eq, V> Rule<K, V> {
     }
 }
 
-// A rule that matches: its place, and its priority.
+/// A rule that matches: its place, and its priority.
 #[derive(Clone, Copy)]
 struct Match {
     at: usize,
     priority: u64,
 }
 
-// The first added of the matching rules of the greatest priority.
+/// The first added of the matching rules of the greatest priority.
 fn first_match<K: Eq, V>(rules: &[Rule<K, V>], query: &[Field<K>]) -> Option<Match>
     requires nets { All HasShortNets rules.now }
     requires alike { All (λ rule. length rule.wants ≡ length query.now) rules.now }
@@ -183,7 +188,7 @@ fn first_match<K: Eq, V>(rules: &[Rule<K, V>], query: &[Field<K>]) -> Option<Mat
     best
 }
 
-// The match of the greater priority, and the earlier one of equal priorities.
+/// The match of the greater priority, and the earlier one of equal priorities.
 fn better(best: Option<Match>, later: Match) -> Match
     ensures { IsBetter best later result }
 {

@@ -6,5 +6,6 @@ ghost use Rattle.hilti_classifier.specs.Matches.{IsFirstMatch};
 
 /// A query has one first match at most.
 pub fn one_answer<K: Eq, V>()
-    ensures { (rules : List (Rule K V)) (query : List (Field K)) (at other : ℕ) → IsFirstMatch K.eq rules query at → IsFirstMatch K.eq rules query other → at ≡ other }
+    ensures { (rules : List (Rule K V)) (query : List (Field K)) (at other : ℕ)
+        → IsFirstMatch K.eq rules query at → IsFirstMatch K.eq rules query other → at ≡ other }
 {}

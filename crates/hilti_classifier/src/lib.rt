@@ -9,4 +9,4 @@ mod tests;
 mod want;
 
 pub use classifier::{Added, Classifier, Got, Rule};
-pub use want::{Field, Fields, Net, Want, Wants};
+pub use want::{Field, Fields, Want, Wants};

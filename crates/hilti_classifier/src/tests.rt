@@ -2,14 +2,12 @@
 ghost use Rattle.std.specs.Prelude.{◌≡◌, [], ◌∷◌, IfOk};
 
 use super::*;
+use hilti_addr::{Net, v4};
 use hilti_base::NoMemory;
 use std::alloc::Global;
 use std::test::Fail;
 
-/// The address 10.0.0.1.
-const HOST: u128 = 0xffff_0000_0000 + 0x0a00_0001;
-
-// One part of a rule.
+/// One part of a rule.
 fn one(alloc: Global, want: Want<u64>) -> Result<Wants<u64>, NoMemory>
     ensures { IfOk result (λ wants. wants ≡ want ∷ []) }
 {
@@ -20,8 +18,9 @@ fn one(alloc: Global, want: Want<u64>) -> Result<Wants<u64>, NoMemory>
 
 #[test]
 fn greatest_priority_wins(rt: HostRuntime) -> Result<(), Fail> {
+    let address = v4(0x0a00_0001);
     let host = Net {
-        addr: HOST,
+        addr: address,
         len: 128,
     };
     let mut rules: Classifier<u64, u8> = Classifier::new(rt.alloc());
@@ -30,7 +29,7 @@ fn greatest_priority_wins(rt: HostRuntime) -> Result<(), Fail> {
     let prefix = one(rt.alloc(), Want::Prefix { net: host })?;
     assert_eq!(rt; rules.add(prefix, 0, b'b'), Ok(Added::Ok));
     let mut query = Fields::new(rt.alloc());
-    query.push(Field::Addr { a: HOST })?;
+    query.push(Field::Addr { a: address })?;
     assert_eq!(rt; rules.get(&query), Got::NotCompiled);
     rules.compile()?;
     assert_eq!(rt; rules.get(&query), Got::At(0));
@@ -62,7 +61,7 @@ fn first_added_of_equal_priorities(rt: HostRuntime) -> Result<(), Fail> {
 fn nothing_matches_without_rules(rt: HostRuntime) -> Result<(), Fail> {
     let mut rules: Classifier<u64, u8> = Classifier::new(rt.alloc());
     let mut query = Fields::new(rt.alloc());
-    query.push(Field::Addr { a: HOST })?;
+    query.push(Field::Addr { a: v4(0x0a00_0001) })?;
     rules.compile()?;
     assert_eq!(rt; rules.get(&query), Got::None);
     laws::one_answer::<u64, u8>();

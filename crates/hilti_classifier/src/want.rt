@@ -1,28 +1,9 @@
-ghost use Rattle.std.specs.Prelude.{◌≡◌, ◌≤◌, ◌↔◌, IsTrue};
-ghost use Rattle.hilti_classifier.specs.Matches.{Fits, masked};
+ghost use Rattle.std.specs.Prelude.{◌↔◌, IsTrue};
+ghost use Rattle.hilti_classifier.specs.Matches.{Fits};
 ghost use Rattle.hilti_classifier.specs.RuleSet.{HasShortNet};
 
+use hilti_addr::{Net, contains};
 use hilti_base::Collection;
-
-/// The addresses whose first bits are those of one address.
-#[derive(Clone, Copy, Debug, PartialEq, Eq)]
-pub struct Net {
-    pub addr: u128,
-    /// How many bits, counted from the 128-bit top.
-    pub len: u8,
-}
-
-// The address with only its first bits kept, so many from the 128-bit top.
-fn mask(a: u128, len: u8) -> u128
-    requires { len ≤ 128 }
-    ensures { result ≡ masked a len }
-{
-    if len == 0 {
-        return 0;
-    }
-    let cleared = 128 - len;
-    a >> cleared << cleared
-}
 
 /// What a part of a rule asks of a field of a query.
 #[derive(Debug, Drop)]
@@ -51,15 +32,14 @@ pub enum Field<K> {
 pub type Fields<K> = Collection<Field<K>>;
 
 impl<K: Eq> Want<K> {
-    // Whether the field fits.
+    /// Whether the field fits.
     pub(crate) fn fits(&self, field: &Field<K>) -> bool
         requires { HasShortNet self.now }
         ensures { IsTrue result ↔ Fits K.eq self.now field.now }
     {
         match (self, field) {
             (Want::Any, _) => true,
-            (Want::Prefix { net }, Field::Addr { a }) => mask(*a, net.len)
-                == mask(net.addr, net.len),
+            (Want::Prefix { net }, Field::Addr { a }) => contains(*net, *a),
             (Want::Exact { key }, Field::Other { key: other }) => key == other,
             _ => false,
         }

@@ -1,2 +1,2 @@
-pub mod Digits
-pub mod Points
+pub mod Decimals
+pub mod Fractions

@@ -3,9 +3,10 @@
 #![tactic(auto)]
 
 mod arithmetic;
+pub mod laws;
 mod numeral;
 #[cfg(test)]
 mod tests;
 
 pub use arithmetic::{add, mul, sub};
-pub use numeral::read_decimal;
+pub use numeral::{read_decimal, split_decimal};

@@ -1,6 +1,7 @@
-ghost use Rattle.std.specs.Prelude.{◌≡◌, ◌≢◌, ℕ, ◌+◌, ◌-◌, ◌*◌, ◌^◌, ◌<◌, ◌≤◌, ◌∷◌, ◌++◌, length, slice_index, IfSome, IsNone, SomeIff};
-ghost use Rattle.std.specs.Str.Parse.{digits_value, IsNumeral};
-ghost use Rattle.hilti_clock.specs.Numerals.{IsNumber, IsSeconds};
+ghost use Rattle.std.specs.Prelude.{ℕ, ◌^◌, ◌<◌, IfSome, IsNone};
+ghost use Rattle.hilti_clock.specs.Numerals.{IsDecimal, IsFraction, IsSeconds};
+
+use hilti_base::{read_digits, read_number, split_at_byte};
 
 /// The nanoseconds of a second.
 const SECOND: u64 = 1_000_000_000;
@@ -15,57 +16,36 @@ pub fn read_decimal(text: &[u8]) -> Option<u64>
     ensures some { IfSome result (λ nanos. IsSeconds text.now nanos) }
     ensures none { IsNone result → (nanos : ℕ) → nanos < 2 ^ 64 → ¬ (IsSeconds text.now nanos) }
 {
-    let Some((number, fraction)) = split_at_point(text) else {
-        return read_number(text)?.checked_mul(SECOND);
+    let Some((seconds, nanos)) = split_decimal(text) else {
+        return read_number(text, u64::MAX)?.checked_mul(SECOND);
     };
-    let seconds = read_number(number)?.checked_mul(SECOND)?;
+    let whole = seconds.checked_mul(SECOND)?;
+    whole.checked_add(u64::from(nanos))
+}
+
+/// The seconds and the nanoseconds of a numeral with a point: `0` or decimal digits without a leading zero, of a number
+/// below 2^64, then the point and 1 to 9 digits. `None` exactly for any other text.
+pub fn split_decimal(text: &[u8]) -> Option<(u64, u32)>
+    ensures some { IfSome result (λ parts. IsDecimal text.now parts.0 parts.1) }
+    ensures none { IsNone result → (seconds nanos : ℕ) → ¬ (IsDecimal text.now seconds nanos) }
+{
+    let (front, fraction) = split_at_byte(text, b'.')?;
+    let seconds = read_number(front, u64::MAX)?;
     let nanos = read_fraction(fraction)?;
-    seconds.checked_add(nanos)
+    Some((seconds, nanos))
 }
 
-// The text before the first point, and behind it.
-fn split_at_point(text: &[u8]) -> Option<(&[u8], &[u8])>
-    ensures none { IsNone result → (k : ℕ) → k < length text.now → slice_index text.now k ≢ 46 }
-    ensures parts { IfSome result (λ parts. text.now ≡ parts.0.now ++ 46 ∷ parts.1.now) }
-    ensures first { IfSome result (λ parts. (k : ℕ) → k < length parts.0.now → slice_index parts.0.now k ≢ 46) }
-{
-    let point = text.iter().position(|byte| *byte == b'.')?;
-    Some((&text[..point], &text[point + 1..]))
-}
-
-// The value of a Number.
-fn read_number(text: &[u8]) -> Option<u64>
-    ensures { SomeIff result (IsNumber text.now × (digits_value 10 text.now < 2 ^ 64)) (digits_value 10 text.now) }
-{
-    if text.len() > 1 && text[0] == b'0' {
-        return None;
-    }
-    read_digits(text)
-}
-
-// The nanoseconds of the digits behind a point.
-fn read_fraction(text: &[u8]) -> Option<u64>
-    ensures value { SomeIff result (IsNumeral 10 text.now × (length text.now ≤ 9)) (digits_value 10 text.now * 10 ^ (9 - length text.now)) }
-    ensures small { IfSome result (λ nanos. nanos < 10 ^ 9) }
+/// The nanoseconds of the digits behind a point.
+fn read_fraction(text: &[u8]) -> Option<u32>
+    ensures some { IfSome result (λ nanos. IsFraction text.now nanos) }
+    ensures none { IsNone result → (nanos : ℕ) → ¬ (IsFraction text.now nanos) }
 {
     if text.len() > MOST_DIGITS {
         return None;
     }
-    let Some(value) = read_digits(text) else {
+    let Some(value) = read_digits(text, 10) else {
         return None;
     };
-    Some(value * 10u64.pow((MOST_DIGITS - text.len()) as u32))
-}
-
-// The value of one decimal digit or more.
-fn read_digits(text: &[u8]) -> Option<u64>
-    ensures { SomeIff result (IsNumeral 10 text.now × (digits_value 10 text.now < 2 ^ 64)) (digits_value 10 text.now) }
-{
-    if text.first() == Some(&b'+') {
-        return None;
-    }
-    let Ok(digits) = str::from_utf8(text) else {
-        return None;
-    };
-    digits.parse::<u64>().ok()
+    let nanos = value * 10u64.pow((MOST_DIGITS - text.len()) as u32);
+    Some(nanos as u32)
 }

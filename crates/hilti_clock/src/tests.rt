@@ -41,5 +41,9 @@ fn reads_seconds(rt: HostRuntime) -> Result<(), Fail> {
     for text in refused {
         assert_eq!(rt; read_decimal(text.as_bytes()), None, "{text}");
     }
+    assert_eq!(rt;
+        split_decimal(b"18446744073709551615.25"),
+        Some((18446744073709551615, 250000000))
+    );
     Ok(())
 }

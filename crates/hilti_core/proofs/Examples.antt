@@ -31,6 +31,10 @@ abbrev log_at : ℕ → Option Core → List Text
 log_at r None = []
 log_at r (Some c) = (c.thread r).log
 
+abbrev finished_at : ℕ → Option Core → List Call
+finished_at r None = []
+finished_at r (Some c) = (c.thread r).finished
+
 abbrev ran_at : ℕ → Option Machine → List Text
 ran_at r None = []
 ran_at r (Some m) = (m.thread r).log
@@ -67,6 +71,16 @@ not_twice = refl
 not_past_limit : core note captured 1 (Feed ∷ Feed ∷ take 1 0 ∷ Put 1 ∷ take 1 0 ∷ []) ≡ None
 not_past_limit = refl
 
+-- with the capture fed, nothing more is fed; a worker that has no thread can't put
+not_fed_again : core note captured 10 (Feed ∷ Feed ∷ Feed ∷ []) ≡ None
+not_fed_again = refl
+
+no_idle_put : core note captured 10 (Feed ∷ take 1 0 ∷ Put 2 ∷ []) ≡ None
+no_idle_put = refl
+
+no_second_put : core note captured 10 (Feed ∷ take 1 0 ∷ Put 1 ∷ Put 1 ∷ []) ≡ None
+no_second_put = refl
+
 -- function 0 sends functions 1 and 2 to threads 1 and 2; function 1 sends a, yields and sends b to thread 9; function
 -- 2 sends c there; functions 3, 4 and 5 print a, b and c
 abbrev letters_apart : Effect
@@ -96,3 +110,17 @@ between_ran = refl
 -- one worker: a, b, c
 between_one : ran_at 9 (run letters_apart single (one letters_apart single 10)) ≡ (97 ∷ []) ∷ (98 ∷ []) ∷ (99 ∷ []) ∷ []
 between_one = refl
+
+-- a call that was given back goes on where no more calls may start
+abbrev suspended : List Call
+suspended = record { function = record { n = 1 }; args = [] } ∷ []
+
+resumed_at_limit : finished_at 0 (core letters_apart suspended 1 (Feed ∷ take 1 0 ∷ Put 1 ∷ take 2 0 ∷ Put 2 ∷ [])) ≡ suspended
+resumed_at_limit = refl
+
+none_past_it : core letters_apart suspended 1 (Feed ∷ take 1 0 ∷ Put 1 ∷ take 2 0 ∷ Put 2 ∷ take 1 9 ∷ []) ≡ None
+none_past_it = refl
+
+-- the one-worker history of at most three picks
+cut_one : one letters_apart single 3 ≡ from_capture 0 ∷ from_thread 0 1 ∷ from_thread 0 2 ∷ []
+cut_one = refl

@@ -86,7 +86,7 @@ counted_step effect calls limit event c d move h = go event move
       numbers = numbers_post c (Thread r) (letters (c.thread r).sent segment.items) h.numbers;
     })
 
-kept : (effect : Effect) (calls : List Call) (limit : ℕ) (journal : List Event) (c : Core) → core effect calls limit journal ≡ Some c → IsKept calls limit c
+pub kept : (effect : Effect) (calls : List Call) (limit : ℕ) (journal : List Event) (c : Core) → core effect calls limit journal ≡ Some c → IsKept calls limit c
 kept effect calls limit journal c e =
     let counted = keeps_play effect limit (Counted calls limit) (counted_step effect calls limit) journal (core_of_none calls) c e
     (record { within = omega arith; unfed = refl; numbers = λ to. All-nil (Numbered [] to) }) in
@@ -207,7 +207,7 @@ module _ (effect : Effect) (sound : Call → Type 0) (segments : HasSegments eff
           one_call : (x y : Running) → Some x ≡ Some y → x.call ≡ y.call
           one_call x y e = let same : x ≡ y = cc in ap (λ (z : Running). z.call) same
 
-  sound_step : (limit : ℕ) (event : Event) (c d : Core) → Moves effect limit c d event → IsSoundCore sound c → IsSoundCore sound d
+  pub sound_step : (limit : ℕ) (event : Event) (c d : Core) → Moves effect limit c d event → IsSoundCore sound c → IsSoundCore sound d
   sound_step limit event c d move h = go event move
     where
       go : (event : Event) → Moves effect limit c d event → IsSoundCore sound d
@@ -216,11 +216,13 @@ module _ (effect : Effect) (sound : Call → Type 0) (segments : HasSegments eff
       go (Take w x) (Starts worker thread head rest is) = subst (IsSoundCore sound) (sym is.gives) (sound_begins c h worker thread.n head rest is.inbox)
       go (Put w) (Home worker r running segment rest is) = subst (IsSoundCore sound) (sym is.gives) (sound_home c h worker r running segment rest is.runs is.left)
 
+  pub sound_first : (calls : List Call) → All sound calls → IsSoundCore sound (core_of_none calls)
+  sound_first calls all = record { inboxes = λ to. All-nil SoundWaiting; finished = λ r. All-nil sound; running = λ r running is. absurd cc; unfed = all }
+
   pub keeps_core : (calls : List Call) (limit : ℕ) (journal : List Event) → KeepsCore effect sound calls limit journal
   keeps_core calls limit journal c e = (
     kept effect calls limit journal c e,
-    λ all. keeps_play effect limit (IsSoundCore sound) (sound_step limit) journal (core_of_none calls) c e
-        (record { inboxes = λ to. All-nil SoundWaiting; finished = λ r. All-nil sound; running = λ r running is. absurd cc; unfed = all }),
+    λ all. keeps_play effect limit (IsSoundCore sound) (sound_step limit) journal (core_of_none calls) c e (sound_first calls all),
   )
 
 -- the core with more calls behind those that weren't fed

@@ -11,6 +11,13 @@ pub mod OneSender
 pub mod Posts
 pub mod Causal
 pub mod Kept
+pub mod Journals
+pub mod Complete
+pub mod UnderWay
+pub mod Inboxes
+pub mod Schedule
+pub mod Reaches
 pub mod Once
 pub mod Numbers
 pub mod Examples
+pub mod CountdownExample

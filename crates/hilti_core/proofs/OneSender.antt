@@ -9,7 +9,7 @@ use Rattle.hilti_tree.specs.declared.call.Call.{Call}
 use Rattle.hilti_core.specs.Sending.{Text, Sender, Sender.Capture, Sender.Thread, same_sender, Message, letters, sends, lines, mail, items_of, Effect}
 use Rattle.hilti_core.specs.Machine.{Ran, Start, Machine, Pick, pick_of, machine, after_call, after_message, run, IsComplete}
 use Rattle.hilti_core.specs.History.{did_from, did, segments_from, picked, ran_calls, sent_to, IsReached}
-use Rattle.hilti_core.specs.One.{one, HasOneSender, SameOutcome, HasOneAnswer}
+use Rattle.hilti_core.specs.One.{one, HasOneSender, SameOutcome, HasOneAnswer, HasOneCount}
 use Rattle.hilti_core.proofs.Sums.{sum_same, sum_le}
 use Rattle.hilti_core.proofs.Lists.{put_cases, same_sender_refl, same_sender_true, mail_cut}
 use Rattle.hilti_core.proofs.Histories.{keeps_all, picks_bound, did-append, reached, reached_first, reached_more, counted, started_picks}
@@ -193,3 +193,17 @@ one_sender effect calls limit =
         };
       },
     )
+
+-- complete histories have equal numbers of picks, so of starts
+pub one_count : (effect : Effect) (calls : List Call) (limit : ℕ) → HasOneCount effect calls limit
+one_count effect calls limit m picks n runs complete single e done =
+    let first : List Pick = one effect calls limit in
+    let h = keeps_to effect calls m (reached effect calls first m runs) complete single picks n e in
+    let a = most effect calls first m runs complete single picks n e in
+    let b = most effect calls picks n e done (keeps_single effect calls m n single h) first m runs in
+    let k = started_count effect calls picks n e in
+    let l = started_count effect calls first m runs in
+    record { picks = omega (arith, a, b); started = omega (arith, a, b, k, l) }
+  where
+    started_count : (effect : Effect) (calls : List Call) (picks : List Pick) (n : Machine) → run effect calls picks ≡ Some n → length n.started ≡ length picks
+    started_count effect calls picks n e = sym (length-map n.started pick_of) ∙ ap length (started_picks effect picks (machine calls) n e)

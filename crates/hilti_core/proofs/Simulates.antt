@@ -86,10 +86,12 @@ module _ (effect : Effect) (m : Machine) (c : Core) (h : Compares effect m c) wh
     same : SameDone (m.thread r) (c.thread r)
     same = same_done effect r (m.thread r) (c.thread r) (h.threads r) idle
 
+    pub head_here : m.channel head.sender r ≡ head.message ∷ the_rest
+    head_here = channel_is effect m c h head.sender r ∙ (ap (λ l. from_sender head.sender l ++ to_post effect c head.sender r) inbox
+        ∙ ap (λ b. cond b (head.message ∷ from_sender head.sender rest) (from_sender head.sender rest) ++ to_post effect c head.sender r) (same_sender_refl head.sender))
+
     pub picks_head : pick_next effect the_pick m ≡ Some (after_message effect the_pick head.message the_rest m)
-    picks_head = ap (pick_from effect the_pick m)
-        (channel_is effect m c h head.sender r ∙ (ap (λ l. from_sender head.sender l ++ to_post effect c head.sender r) inbox
-        ∙ ap (λ b. cond b (head.message ∷ from_sender head.sender rest) (from_sender head.sender rest) ++ to_post effect c head.sender r) (same_sender_refl head.sender)))
+    picks_head = ap (pick_from effect the_pick m) head_here
 
     -- the channels without the head are the inboxes without it
     headless : (s : Sender) (to : ℕ) → without_head the_pick the_rest m.channel s to ≡ from_sender s (put_at c.inbox r rest to) ++ to_post effect c s to

@@ -1,13 +1,17 @@
--- The core, which workers move: one inbox a thread, and calls that are given back between their segments.
-use Rattle.std.specs.Prelude.{ℕ, ◌+◌, ◌==◌, suc, nat_lt, Bool, true, false, cond, List, [], ◌∷◌, ◌++◌, length, map, drop, Option, Some, None}
+-- The core, which workers move: one inbox a thread, and calls that are given back between their
+-- segments.
+use Rattle.std.specs.Prelude.{ℕ, ◌+◌, ◌==◌, suc, nat_lt, Bool, true, false, cond, List, [], ◌∷◌}
+use Rattle.std.specs.Prelude.{◌++◌, length, map, drop, Option, Some, None, ◌≡◌}
 use Rattle.hilti_tree.specs.declared.call.Call.{Call}
 use Rattle.hilti_core.specs.declared.pieces.Segment.{Segment}
 use Rattle.hilti_core.specs.declared.event.Event.{Event}
 use Rattle.hilti_core.specs.declared.event.Event.TheVariants.{Feed, Take, Put}
-use Rattle.hilti_core.specs.Sending.{Text, Sender, Sender.Capture, Sender.Thread, Message, Letter, letters, sends, lines, Effect, put_at}
+use Rattle.hilti_core.specs.Sending.{Text, Sender, Sender.Capture, Sender.Thread, Message, Letter}
+use Rattle.hilti_core.specs.Sending.{letters, sends, lines, Effect, put_at}
 use Rattle.hilti_core.specs.Machine.{Start, Pick, pick_of}
 
--- a call that waits in an inbox: who sent it, and how many calls were posted before it over all threads
+-- a call that waits in an inbox: who sent it, and how many calls were posted before it over all
+-- threads
 pub record Waiting : Type 0 where
   pub sender : Sender
   pub message : Message
@@ -18,7 +22,8 @@ pub record Running : Type 0 where
   pub call : Call
   pub given : ℕ
 
--- a thread: the calls that it finished, its call in progress, what was posted of both, and the worker that has it
+-- a thread: the calls that it finished, its call in progress, what was posted of both, and the
+-- worker that has it
 pub record Resident : Type 0 where
   pub finished : List Call
   pub running : Option Running
@@ -31,8 +36,8 @@ pub record Post : Type 0 where
   pub sender : Sender
   pub letter : Letter
 
--- the inboxes, the threads, the thread that each worker has, the capture's calls fed and unfed, the calls posted and
--- the calls started in their order, and the number of takes
+-- the inboxes, the threads, the thread that each worker has, the capture's calls fed and unfed, the
+-- calls posted and the calls started in their order, and the number of takes
 pub record Core : Type 0 where
   pub inbox : ℕ → List Waiting
   pub thread : ℕ → Resident
@@ -62,7 +67,10 @@ core_of_none calls = record {
 -- those of the letters that go to this thread, numbered in their order over all threads
 abbrev pub arrivals : Sender → ℕ → ℕ → List Letter → List Waiting
 arrivals sender number to [] = []
-arrivals sender number to (letter ∷ more) = cond (to == letter.to) (record { sender = sender; message = letter.message; number = number } ∷ arrivals sender (suc number) to more) (arrivals sender (suc number) to more)
+arrivals sender number to (letter ∷ more) =
+    let later = arrivals sender (suc number) to more in
+    cond (to == letter.to)
+    (record { sender = sender; message = letter.message; number = number } ∷ later) later
 
 -- each letter goes to the back of its receiver's inbox
 abbrev pub post : Sender → List Letter → Core → Core
@@ -74,7 +82,9 @@ post sender posted c = record c {
 -- the next call of the capture goes to thread 0
 abbrev pub feed : Core → List Call → Option Core
 feed c [] = None
-feed c (call ∷ rest) = Some (post Capture (record { to = 0; message = record { call = call; place = c.fed } } ∷ []) (record c { fed = suc c.fed; unfed = rest }))
+feed c (call ∷ rest) =
+    Some (post Capture (record { to = 0; message = record { call = call; place = c.fed } } ∷ [])
+    (record c { fed = suc c.fed; unfed = rest }))
 
 -- the worker has the thread, which goes on with its call
 abbrev pub goes_on : ℕ → ℕ → Core → Core
@@ -84,18 +94,29 @@ goes_on worker r c = record c {
   takes = suc c.takes;
 }
 
--- the worker has the thread, which begins the call at the head of its inbox, of which `rest` is left
+-- the worker has the thread, which begins the call at the head of its inbox, of which `rest` is
+-- left
 abbrev pub begins : ℕ → ℕ → Waiting → List Waiting → Core → Core
 begins worker r head rest c = record c {
   inbox = put_at c.inbox r rest;
-  thread = put_at c.thread r (record (c.thread r) { running = Some (record { call = head.message.call; given = 0 }); worker = Some worker });
+  thread = put_at c.thread r (record (c.thread r) {
+    running = Some (record { call = head.message.call; given = 0 });
+    worker = Some worker;
+  });
   out = put_at c.out worker (Some r);
-  started = c.started ++ record { sender = head.sender; receiver = r; message = head.message; sent = (c.thread r).sent } ∷ [];
+  started = c.started ++ record {
+    sender = head.sender;
+    receiver = r;
+    message = head.message;
+    sent = (c.thread r).sent;
+  } ∷ [];
   takes = suc c.takes;
 }
 
--- a take, by what the worker has, who has the thread, the thread's call, its inbox, and whether a call may start
-abbrev pub take_by : ℕ → ℕ → Core → Option ℕ → Option ℕ → Option Running → List Waiting → Bool → Option Core
+-- a take, by what the worker has, who has the thread, the thread's call, its inbox, and whether a
+-- call may start
+abbrev pub take_by :
+    ℕ → ℕ → Core → Option ℕ → Option ℕ → Option Running → List Waiting → Bool → Option Core
 take_by worker r c None None (Some running) inbox may = Some (goes_on worker r c)
 take_by worker r c None None None (head ∷ rest) true = Some (begins worker r head rest c)
 take_by worker r c None None None (head ∷ rest) false = None
@@ -143,18 +164,22 @@ comes_home worker r running segment rest c =
 abbrev pub put_by : ℕ → ℕ → Core → Option Running → List Segment → Option Core
 put_by worker r c None segments = None
 put_by worker r c (Some running) [] = None
-put_by worker r c (Some running) (segment ∷ rest) = Some (comes_home worker r running segment rest c)
+put_by worker r c (Some running) (segment ∷ rest) =
+    Some (comes_home worker r running segment rest c)
 
 -- a put, by the thread that the worker has
 abbrev pub put_of : Effect → ℕ → Core → Option ℕ → Option Core
 put_of effect worker c None = None
-put_of effect worker c (Some r) = put_by worker r c (c.thread r).running (left effect r (c.thread r))
+put_of effect worker c (Some r) =
+    put_by worker r c (c.thread r).running (left effect r (c.thread r))
 
 -- one event, if it is legal where at most `limit` calls may start
 abbrev pub step : Effect → ℕ → Event → Core → Option Core
 step effect limit Feed c = feed c c.unfed
 step effect limit (Take worker thread) c =
-    take_by worker thread.n c (c.out worker) (c.thread thread.n).worker (c.thread thread.n).running (c.inbox thread.n) (nat_lt (length c.started) limit)
+    let resident = c.thread thread.n in
+    take_by worker thread.n c (c.out worker) resident.worker resident.running (c.inbox thread.n)
+    (nat_lt (length c.started) limit)
 step effect limit (Put worker) c = put_of effect worker c (c.out worker)
 
 -- these events one after another, if each is legal where it stands
@@ -166,6 +191,14 @@ play effect limit (event ∷ more) (Some c) = play effect limit more (step effec
 -- the core after a journal, where it is legal over these calls
 abbrev pub core : Effect → List Call → ℕ → List Event → Option Core
 core effect calls limit journal = play effect limit journal (Some (core_of_none calls))
+
+-- the journal is legal over these calls, and leads to this core
+abbrev pub LeadsTo : Effect → List Call → ℕ → List Event → Core → Type 0
+LeadsTo effect calls limit journal c = core effect calls limit journal ≡ Some c
+
+-- a law of all calls of the capture, limits and journals
+abbrev pub OverJournals : (List Call → ℕ → List Event → Type 0) → Type 0
+OverJournals law = (calls : List Call) (limit : ℕ) (journal : List Event) → law calls limit journal
 
 -- the picks of the takes that started a call
 abbrev pub picks_of : Option Core → List Pick

@@ -1,5 +1,6 @@
 -- The body that counts down: what its calls do.
-use Rattle.std.specs.Prelude.{ℕ, ◌≤◌, ◌==◌, zero, suc, not, List, [], ◌∷◌, Option, Some, None, ◌≡◌, Bool}
+use Rattle.std.specs.Prelude.{ℕ, ◌≤◌, ◌==◌, zero, suc, not, List, [], ◌∷◌, Option, Some, None, ◌≡◌}
+use Rattle.std.specs.Prelude.{Bool}
 use Rattle.std.specs.Fmt.{decimal}
 use Rattle.hilti_base.specs.declared.names.FnId.{FnId}
 use Rattle.hilti_tree.specs.declared.call.Call.{Call}
@@ -28,11 +29,14 @@ number_of (tree ∷ more) = fold-Tree ℕ number_in tree
 -- what a call does last: it sends the next one, if its number isn't 0
 abbrev pub next : FnId → ℕ → List Item
 next function zero = []
-next function (suc n) = Send (record { n = suc n }) (record { function = function; args = variants.Int n ∷ [] }) ∷ []
+next function (suc n) =
+    Send (record { n = suc n }) (record { function = function; args = variants.Int n ∷ [] }) ∷ []
 
 -- a call prints its number, yields, and sends the next call
 abbrev pub countdown : FnId → ℕ → List Segment
-countdown function n = record { items = Line (decimal n) ∷ []; end = Yielded } ∷ record { items = next function n; end = Returned } ∷ []
+countdown function n =
+    record { items = Line (decimal n) ∷ []; end = Yielded }
+    ∷ record { items = next function n; end = Returned } ∷ []
 
 abbrev pub effect_of : Call → List Segment
 effect_of call = countdown call.function (number_of call.args)
@@ -43,7 +47,11 @@ IsNumber call = (n : ℕ) × (call.args ≡ variants.Int n ∷ [])
 
 -- how far a call in progress is, by the number of its segments given
 abbrev pub progress_of : Running → Progress
-progress_of running = record { function = running.call.function; number = number_of running.call.args; printed = not (running.given == 0) }
+progress_of running = record {
+  function = running.call.function;
+  number = number_of running.call.args;
+  printed = not (running.given == 0);
+}
 
 -- what a virtual thread keeps of its call in progress
 abbrev pub IsAt : Counter → Option Running → Type 0
@@ -52,4 +60,5 @@ IsAt counter (Some running) = (counter.progress ≡ Some (progress_of running)) 
 
 -- a virtual thread has a call of function 0 on this number in progress, which was printed or not
 abbrev pub HasProgress : Counter → ℕ → Bool → Type 0
-HasProgress counter n printed = counter.progress ≡ Some (record { function = record { n = 0 }; number = n; printed = printed })
+HasProgress counter n printed =
+    counter.progress ≡ Some (record { function = record { n = 0 }; number = n; printed = printed })

@@ -16,9 +16,15 @@ abbrev HasReturned : End → Type 0
 HasReturned Returned = Unit {0}
 HasReturned _ = ⊥
 
-sends_numbers : (function : FnId) (n : ℕ) → All IsNumber (sent_calls (items_of (countdown function n)))
+sends_numbers : (function : FnId) (n : ℕ) →
+    All IsNumber (sent_calls (items_of (countdown function n)))
 sends_numbers function zero = All-nil IsNumber
-sends_numbers function (suc n) = All-cons IsNumber (record { function = function; args = variants.Int n ∷ [] }) [] (n, refl) (All-nil IsNumber)
+sends_numbers function (suc n) =
+    All-cons IsNumber (record { function = function; args = variants.Int n ∷ [] }) [] (n, refl)
+    (All-nil IsNumber)
 
 pub has_segments : HasSegments (λ thread finished call. effect_of call) IsNumber
-has_segments thread finished call all sound = record { ends = (refl, λ e. subst HasReturned e tt); sends = sends_numbers call.function (number_of call.args) }
+has_segments thread finished call all sound = record {
+  ends = (refl, λ e. subst HasReturned e tt);
+  sends = sends_numbers call.function (number_of call.args);
+}

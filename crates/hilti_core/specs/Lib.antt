@@ -8,5 +8,10 @@ pub mod History
 pub mod One
 pub mod Causes
 pub mod Kept
+pub mod Journals
+pub mod Complete
+pub mod UnderWay
+pub mod Inboxes
+pub mod Schedule
 pub mod Countdown
 pub mod CountdownLaw

@@ -1,10 +1,14 @@
 -- The machine of threads and channels, which runs each call at once.
-use Rattle.std.specs.Prelude.{ℕ, ◌+◌, ◌==◌, ◌&&◌, cond, List, [], ◌∷◌, ◌++◌, length, Option, Some, None, ◌≡◌}
+use Rattle.std.specs.Prelude.{ℕ, ◌+◌, ◌==◌, ◌&&◌, cond, List, [], ◌∷◌, ◌++◌, length, Option, Some}
+use Rattle.std.specs.Prelude.{None, ◌≡◌}
 use Rattle.hilti_tree.specs.declared.call.Call.{Call}
 use Rattle.hilti_core.specs.declared.pieces.Item.{Item}
-use Rattle.hilti_core.specs.Sending.{Text, Sender, Sender.Capture, Sender.Thread, same_sender, Message, letters, sends, lines, mail, items_of, messages, Effect, put_at}
+use Rattle.hilti_core.specs.Sending.{Text, Sender, Sender.Capture, Sender.Thread, same_sender}
+use Rattle.hilti_core.specs.Sending.{Message, letters, sends, lines, mail, items_of, messages}
+use Rattle.hilti_core.specs.Sending.{Effect, put_at}
 
--- what a thread did: the calls that it ran, the lines that they printed, and how many calls they sent
+-- what a thread did: the calls that it ran, the lines that they printed, and how many calls they
+-- sent
 pub record Ran : Type 0 where
   pub calls : List Call
   pub log : List Text
@@ -17,7 +21,8 @@ pub record Start : Type 0 where
   pub message : Message
   pub sent : ℕ
 
--- the threads, a channel from each sender to each thread, the calls that were started, and their segments
+-- the threads, a channel from each sender to each thread, the calls that were started, and their
+-- segments
 pub record Machine : Type 0 where
   pub thread : ℕ → Ran
   pub channel : Sender → ℕ → List Message
@@ -48,15 +53,22 @@ machine calls = record {
 
 -- the thread's state after a call that does these items
 abbrev pub after_call : Ran → Call → List Item → Ran
-after_call ran call items = record { calls = ran.calls ++ call ∷ []; log = ran.log ++ lines items; sent = ran.sent + sends items }
+after_call ran call items = record {
+  calls = ran.calls ++ call ∷ [];
+  log = ran.log ++ lines items;
+  sent = ran.sent + sends items;
+}
 
 -- the channels without the head of one, of which `rest` is left
-abbrev pub without_head : Pick → List Message → (Sender → ℕ → List Message) → Sender → ℕ → List Message
-without_head pick rest channel from to = cond (same_sender from pick.sender && (to == pick.receiver)) rest (channel from to)
+abbrev pub without_head :
+    Pick → List Message → (Sender → ℕ → List Message) → Sender → ℕ → List Message
+without_head pick rest channel from to =
+    cond (same_sender from pick.sender && (to == pick.receiver)) rest (channel from to)
 
 -- what these items send to a thread, if they are those of this sender
 abbrev pub sent_by : ℕ → ℕ → List Item → Sender → ℕ → List Message
-sent_by thread place items from to = cond (same_sender from (Thread thread)) (mail to (letters place items)) []
+sent_by thread place items from to =
+    cond (same_sender from (Thread thread)) (mail to (letters place items)) []
 
 -- the machine after the receiver ran this message, whose channel keeps `rest`
 abbrev pub after_message : Effect → Pick → Message → List Message → Machine → Machine
@@ -66,8 +78,14 @@ after_message effect pick message rest m =
     let items = items_of segments in
     record {
       thread = put_at m.thread pick.receiver (after_call ran message.call items);
-      channel = λ from to. without_head pick rest m.channel from to ++ sent_by pick.receiver ran.sent items from to;
-      started = m.started ++ record { sender = pick.sender; receiver = pick.receiver; message = message; sent = ran.sent } ∷ [];
+      channel = λ from to. without_head pick rest m.channel from to
+          ++ sent_by pick.receiver ran.sent items from to;
+      started = m.started ++ record {
+        sender = pick.sender;
+        receiver = pick.receiver;
+        message = message;
+        sent = ran.sent;
+      } ∷ [];
       segments = m.segments + length segments;
     }
 
@@ -89,6 +107,10 @@ run_from effect (pick ∷ more) (Some m) = run_from effect more (pick_next effec
 -- the machine after a list of picks, where they are a history
 abbrev pub run : Effect → List Call → List Pick → Option Machine
 run effect calls picks = run_from effect picks (Some (machine calls))
+
+-- these picks are a history, which leads to this machine
+abbrev pub RunsTo : Effect → List Call → List Pick → Machine → Type 0
+RunsTo effect calls picks m = run effect calls picks ≡ Some m
 
 -- all channels are empty
 abbrev pub IsComplete : Machine → Type 0

@@ -34,7 +34,9 @@ pub record Letter : Type 0 where
 -- what these items send, in order, where `place` calls were sent before them
 abbrev pub letters : ℕ → List Item → List Letter
 letters place [] = []
-letters place (Send to call ∷ items) = record { to = to.n; message = record { call = call; place = place } } ∷ letters (suc place) items
+letters place (Send to call ∷ items) =
+    record { to = to.n; message = record { call = call; place = place } }
+    ∷ letters (suc place) items
 letters place (Line text ∷ items) = letters place items
 
 -- how many calls these items send

@@ -43,12 +43,14 @@ pub trait Body {
     fn start(&self, vt: &mut Self::Vt, call: Call) -> Result<(), NoMemory>
         requires sound { sound (facts self.now) call }
         requires idle { IsIdle (runs (facts self.now) vt.old) }
-        ensures { OnOk result (Starts (runs (facts self.now) vt.old) call (runs (facts self.now) vt.new)) };
+        ensures { OnOk result
+            (Starts (runs (facts self.now) vt.old) call (runs (facts self.now) vt.new)) };
 
     /// Runs the call in progress to the end of its next segment. After `NoMemory` the virtual thread is only dropped.
     fn segment(&self, vt: &mut Self::Vt) -> Result<Segment, NoMemory>
         requires { IsBusy (runs (facts self.now) vt.old) }
-        ensures { IfOk result (λ segment. Gives (effect (facts self.now)) (runs (facts self.now) vt.old) segment (runs (facts self.now) vt.new)) };
+        ensures { IfOk result (λ segment. Gives (effect (facts self.now))
+            (runs (facts self.now) vt.old) segment (runs (facts self.now) vt.new)) };
 
     /// A sound call after sound calls has at least one segment; all but the last end `Yielded`, and the last doesn't;
     /// each call that it sends is sound.

@@ -72,7 +72,8 @@ fn assert_sends<R: Abort>(rt: &R, segment: &Segment, thread: u64, number: u64) {
 }
 
 /// The journal `feed, feed, take 1 0, put 1, take 1 0, put 1, take 2 2, take 1 0, put 1, put 2, take 1 2, put 1, take 2
-/// 1, put 2, take 2 1, put 2` over the calls on 2 and 0: thread 0 prints 2 and 0, thread 2 prints 1, thread 1 prints 0.
+/// 1, put 2, take 2 1, put 2, take 1 0, put 1` over the calls on 2 and 0: thread 0 prints 2 and 0, thread 2 prints 1,
+/// thread 1 prints 0, and each call ends.
 #[test]
 fn a_journal_by_hand(rt: HostRuntime) -> Result<(), Fail> {
     let alloc = rt.alloc();
@@ -103,4 +104,12 @@ fn laws_hold_of_a_body() {
     laws::histories::<Countdown>();
     laws::legal_core::<Countdown>();
     laws::more_calls::<Countdown>();
+    laws::one_after_another::<Countdown>();
+    laws::stays_out::<Countdown>();
+    laws::complete::<Countdown>();
+    laws::one_count::<Countdown>();
+    laws::inboxes::<Countdown>();
+    laws::under_way::<Countdown>();
+    laws::one_by_one::<Countdown>();
+    laws::one_ends::<Countdown>();
 }

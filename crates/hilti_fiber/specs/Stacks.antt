@@ -6,7 +6,8 @@ use Rattle.hilti_program.specs.declared.parts.Parts.{Parts}
 use Rattle.hilti_core.specs.declared.pieces.Item.{Item}
 use Rattle.hilti_core.specs.declared.pieces.Segment.{Segment}
 use Rattle.hilti_frames.specs.declared.frames.Frame.{Frame}
-use Rattle.hilti_meaning.specs.Calls.{Action, Action.Go, Action.Call, Action.Leave, Back.Out, Outcome, Outcome.Ended, Waiting, emit, resumes, rest}
+use Rattle.hilti_meaning.specs.Calls.{Action, Action.Go, Action.Call, Action.Leave, Back.Out}
+use Rattle.hilti_meaning.specs.Calls.{Outcome, Outcome.Ended, Waiting, emit, resumes, rest}
 use Rattle.hilti_meaning.specs.State.{State, Result, Mark}
 use Rattle.hilti_meaning.specs.Rows.{resume, language}
 use Rattle.hilti_meaning.specs.Effect.{tell, closing, state_of, name_of, opens, waits}
@@ -32,28 +33,36 @@ ahead parts stack top st fuel = rest (language parts) (waiting_of stack) top st 
 
 -- what the frames below do, once the top ended so
 unfoldable pub return_to : Parts → Stack → Result → State → ℕ → Outcome State Result Mark
-return_to parts stack result st fuel = resumes (language parts) (waiting_of stack) (Ended result st fuel [])
+return_to parts stack result st fuel =
+    resumes (language parts) (waiting_of stack) (Ended result st fuel [])
 
 -- what the stack still does after its top does this
-unfoldable pub behind : Parts → Stack → Action Frame State Result Mark → ℕ → Outcome State Result Mark
+unfoldable pub behind : Parts → Stack → Action Frame State Result Mark → ℕ
+    → Outcome State Result Mark
 behind parts stack (Go marks frame st) fuel = emit marks (ahead parts stack frame st fuel)
 behind parts stack (Call first more frame st) fuel =
-    rest (language parts) (waiting_of stack ++ record { more = more; back = resume frame } ∷ []) first st fuel
+    rest (language parts) (waiting_of stack ++ record { more = more; back = resume frame } ∷ [])
+    first st fuel
 behind parts stack (Leave result st) fuel = return_to parts stack result st fuel
 
--- what was ahead is still ahead of the next top, behind these items; with no top left, the call ended
-abbrev pub GoesOn : Parts → Outcome State Result Mark → List Item → Option Frame → Stack → State → ℕ → Type 0
+-- what was ahead is still ahead of the next top, behind these items; with no top left, the call
+-- ended
+abbrev pub GoesOn : Parts → Outcome State Result Mark → List Item → Option Frame → Stack → State → ℕ
+    → Type 0
 GoesOn parts o items (Some top) stack st fuel = o ≡ tell items (ahead parts stack top st fuel)
-GoesOn parts o items None stack st fuel = (result : Result) × (o ≡ tell items (Ended result st fuel []))
+GoesOn parts o items None stack st fuel =
+    (result : Result) × (o ≡ tell items (Ended result st fuel []))
 
 -- a call at its first instruction, or at that of the function that runs before it
-pub record Begins (parts : Parts) (first : Option FnId) (call : Called) (fuel : ℕ) (c : Calling) : Type 0 where
+pub record Begins (parts : Parts) (first : Option FnId) (call : Called) (fuel : ℕ)
+    (c : Calling) : Type 0 where
   pub function : c.function ≡ call.function
   pub top : c.top ≡ opens parts first call
   pub below : waiting_of c.stack ≡ waits parts first call
   pub full : c.fuel ≡ fuel
 
 -- a call of this function that did all this ends with this segment, and leaves this state
-pub record EndsIn (parts : Parts) (f : FnId) (o : Outcome State Result Mark) (segment : Segment) (st : State) : Type 0 where
+pub record EndsIn (parts : Parts) (f : FnId) (o : Outcome State Result Mark) (segment : Segment)
+    (st : State) : Type 0 where
   pub last : closing (name_of parts f) o ≡ segment ∷ []
   pub leaves : state_of o ≡ st

@@ -29,12 +29,15 @@ HasNext (frames.Function f block at slots target) = at + 1 < 2 ^ 32
 
 -- what a frame does on an instruction
 abbrev pub performed : Parts → Instruction → Frame → State → Action Frame State Result Mark
-performed parts i (frames.Function f block at slots target) st = row parts i f block at slots target st i.op
+performed parts i (frames.Function f block at slots target) st =
+    row parts i f block at slots target st i.op
 
 -- the step is what the meaning does on this instruction, whatever thread it is
 abbrev pub Does : Parts → Instruction → Frame → List Value → Step → List Value → Type 0
-Does parts i frame globals step after = (number : ℕ) (ran : Bool) → action_of step (thread number ran after) ≡ performed parts i frame (thread number ran globals)
+Does parts i frame globals step after = (number : ℕ) (ran : Bool)
+    → action_of step (thread number ran after) ≡ performed parts i frame (thread number ran globals)
 
 -- the step is what the meaning does next, whatever thread it is
 abbrev pub Acts : Parts → Frame → List Value → Step → List Value → Type 0
-Acts parts frame globals step after = (number : ℕ) (ran : Bool) → action_of step (thread number ran after) ≡ act parts frame (thread number ran globals)
+Acts parts frame globals step after = (number : ℕ) (ran : Bool)
+    → action_of step (thread number ran after) ≡ act parts frame (thread number ran globals)

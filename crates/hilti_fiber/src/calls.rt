@@ -15,7 +15,8 @@ use std::alloc::Global;
 
 /// What globals hold at first.
 pub fn first_globals(alloc: Global, declared: &[Declared]) -> Result<Variables, NoMemory>
-    ensures { IfOk result (λ globals. globals ≡ map (λ (global : Declared). of_tree global.first) declared.now) }
+    ensures { IfOk result (λ globals. globals
+        ≡ map (λ (global : Declared). of_tree global.first) declared.now) }
 {
     let mut globals = Variables::new(alloc);
     for global in declared {

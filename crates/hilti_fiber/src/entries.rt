@@ -38,7 +38,8 @@ fn with_locals(
     arguments: Variables,
     function: &Function,
 ) -> Result<Variables, NoMemory>
-    ensures { IfOk result (λ slots. slots ≡ arguments ++ map first_of (drop function.now.params function.now.slots)) }
+    ensures { IfOk result (λ slots. slots
+        ≡ arguments ++ map first_of (drop function.now.params function.now.slots)) }
 {
     let mut slots = arguments;
     let kinds = locals(function.slots.as_slice(), function.params as usize);

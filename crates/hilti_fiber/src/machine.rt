@@ -34,7 +34,13 @@ impl Model for Machine {
 
     ghost Value = { Facts };
 
-    ghost coded = { Prim.hlevel (codes, kinds.the_row.coded, objects.the_row.coded, trees.the_row.coded, operands.the_row.coded) };
+    ghost coded = { Prim.hlevel (
+      codes,
+      kinds.the_row.coded,
+      objects.the_row.coded,
+      trees.the_row.coded,
+      operands.the_row.coded,
+    ) };
 
     ghost view = { λ machine. record { parts = machine.program; fuel = machine.fuel } };
 }
@@ -55,7 +61,12 @@ impl Model for Vthread {
 
     ghost Value = { Thread };
 
-    ghost view = { λ vt. record { number = vt.number.n; globals = vt.globals; ran = vt.ran; calling = vt.calling } };
+    ghost view = { λ vt. record {
+      number = vt.number.n;
+      globals = vt.globals;
+      ran = vt.ran;
+      calling = vt.calling;
+    } };
 }
 
 impl Machine {
@@ -109,7 +120,8 @@ impl Machine {
     /// Runs the call in progress to the end of its next segment. After `NoMemory` the virtual thread is only dropped.
     pub fn segment(&self, vt: &mut Vthread) -> Result<Segment, NoMemory>
         requires { IsBusy (runs self.now vt.old) }
-        ensures { IfOk result (λ segment. Gives (effect self.now.parts self.now.fuel) (runs self.now vt.old) segment (runs self.now vt.new)) }
+        ensures { IfOk result (λ segment. Gives (effect self.now.parts self.now.fuel)
+            (runs self.now vt.old) segment (runs self.now vt.new)) }
     {
         match vt.calling.take() {
             Some(calling) => {
@@ -126,7 +138,9 @@ impl Vthread {
     /// It takes no memory.
     pub fn place(&self) -> Option<(FnId, u32, u32)>
         ensures none { IsNone result ↔ (self.now.calling ≡ None) }
-        ensures next { (facts : Facts) (number : ℕ) (finished : List Called) (running : Option Running) → runs facts self.now number finished running → IsPlace facts number finished running result }
+        ensures next { (facts : Facts) (number : ℕ) (finished : List Called)
+            (running : Option Running) → runs facts self.now number finished running
+            → IsPlace facts number finished running result }
     {
         match &self.calling {
             Some(calling) => {

@@ -123,7 +123,8 @@ pub fn values_at(
     slots: &Variables,
     globals: &Variables,
 ) -> Result<Variables, NoMemory>
-    ensures { IfOk result (λ values. values ≡ map (given slots.now globals.now) (group_of (slice_get operands.now n))) }
+    ensures { IfOk result (λ values. values
+        ≡ map (given slots.now globals.now) (group_of (slice_get operands.now n))) }
 {
     match operands.get(n) {
         Some(operand) => values_in(alloc, operand, slots, globals),
@@ -137,7 +138,8 @@ fn values_in(
     slots: &Variables,
     globals: &Variables,
 ) -> Result<Variables, NoMemory>
-    ensures { IfOk result (λ values. values ≡ map (given slots.now globals.now) (group_of (Some operand.now))) }
+    ensures { IfOk result (λ values. values
+        ≡ map (given slots.now globals.now) (group_of (Some operand.now))) }
 {
     match operand {
         Operand::Group { items } => values(alloc, items.as_slice(), slots, globals),

@@ -1,7 +1,8 @@
 //! The instructions that only compute, and where their values go.
 ghost use Rattle.std.specs.Prelude.{◌≡◌, ◌+◌, ◌%◌, ◌^◌, ◌&&◌, ◌||◌, not, nat_lt, cond, IfOk};
 ghost use Rattle.hilti_heap.specs.declared.value.Value.TheVariants as values;
-ghost use Rattle.hilti_meaning.specs.Values.{truth as truth_of, whole as whole_of, slots_with, globals_with};
+ghost use Rattle.hilti_meaning.specs.Values.{truth as truth_of, whole as whole_of, slots_with};
+ghost use Rattle.hilti_meaning.specs.Values.{globals_with};
 ghost use Rattle.hilti_meaning.specs.Rows.{given_at, apply};
 
 use crate::operands::given_value;
@@ -14,7 +15,10 @@ use hilti_types::Op;
 
 /// `select`
 fn select(operands: &Operands, slots: &Variables, globals: &Variables) -> Result<Value, NoMemory>
-    ensures { IfOk result (λ value. value ≡ cond (truth_of (given_at slots.now globals.now operands.now 0)) (given_at slots.now globals.now operands.now 1) (given_at slots.now globals.now operands.now 2)) }
+    ensures { IfOk result (λ value. value
+        ≡ cond (truth_of (given_at slots.now globals.now operands.now 0))
+        (given_at slots.now globals.now operands.now 1)
+        (given_at slots.now globals.now operands.now 2)) }
 {
     let condition = given_value(operands, 0, slots, globals)?;
     if truth(&condition) {
@@ -68,7 +72,8 @@ pub fn computed(
     slots: &Variables,
     globals: &Variables,
 ) -> Result<Option<Value>, NoMemory>
-    ensures { IfOk result (λ value. value ≡ apply op (given_at slots.now globals.now operands.now)) }
+    ensures { IfOk result (λ value. value
+        ≡ apply op (given_at slots.now globals.now operands.now)) }
 {
     match op {
         Op::Assign => Ok(Some(given_value(operands, 0, slots, globals)?)),

@@ -21,7 +21,11 @@ fn follow(
     globals: &mut Variables,
     items: &mut Items,
 ) -> Result<Option<Frame>, NoMemory>
-    ensures { IfOk result (λ next. (parts : Data) (number : ℕ) (ran : Bool) (fuel : ℕ) → GoesOn parts (tell items.old (behind parts stack.old (action_of step (thread number ran globals.old)) fuel)) items.new next stack.new (thread number ran globals.new) fuel) }
+    ensures { IfOk result (λ next. (parts : Data) (number : ℕ) (ran : Bool) (fuel : ℕ)
+        → GoesOn parts
+        (tell items.old
+        (behind parts stack.old (action_of step (thread number ran globals.old)) fuel)) items.new
+        next stack.new (thread number ran globals.new) fuel) }
 {
     match step {
         Step::Goes { frame } => Ok(Some(frame)),
@@ -47,7 +51,10 @@ fn advance(
     items: &mut Items,
 ) -> Result<Option<Frame>, NoMemory>
     requires { AreShort parts.now }
-    ensures { IfOk result (λ next. (number : ℕ) (ran : Bool) (fuel : ℕ) → GoesOn parts.now (tell items.old (ahead parts.now stack.old top (thread number ran globals.old) (suc fuel))) items.new next stack.new (thread number ran globals.new) fuel) }
+    ensures { IfOk result (λ next. (number : ℕ) (ran : Bool) (fuel : ℕ)
+        → GoesOn parts.now
+        (tell items.old (ahead parts.now stack.old top (thread number ran globals.old) (suc fuel)))
+        items.new next stack.new (thread number ran globals.new) fuel) }
 {
     let step = act(alloc, parts, top, globals)?;
     let next = follow(step, stack, globals, items)?;
@@ -80,7 +87,10 @@ pub fn run(
     globals: &mut Variables,
 ) -> Result<Segment, NoMemory>
     requires { AreShort parts.now }
-    ensures { IfOk result (λ segment. (number : ℕ) (ran : Bool) → EndsIn parts.now calling.function (ahead parts.now calling.stack calling.top (thread number ran globals.old) calling.fuel) segment (thread number ran globals.new)) }
+    ensures { IfOk result (λ segment. (number : ℕ) (ran : Bool)
+        → EndsIn parts.now calling.function
+        (ahead parts.now calling.stack calling.top (thread number ran globals.old) calling.fuel)
+        segment (thread number ran globals.new)) }
 {
     let Calling {
         function,

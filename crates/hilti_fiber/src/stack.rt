@@ -42,7 +42,9 @@ fn resumed(
     value: Option<Value>,
     globals: &mut Variables,
 ) -> Frame
-    ensures { (number : ℕ) (ran : Bool) → resume frame (record { target = target; value = value }) (thread number ran globals.old) ≡ On result (thread number ran globals.new) }
+    ensures { (number : ℕ) (ran : Bool)
+        → resume frame (record { target = target; value = value }) (thread number ran globals.old)
+        ≡ On result (thread number ran globals.new) }
 {
     let Frame::Function {
         f,
@@ -69,7 +71,12 @@ pub fn come_back(
     value: Option<Value>,
     globals: &mut Variables,
 ) -> Option<Frame>
-    ensures { (parts : Parts) (number : ℕ) (ran : Bool) (fuel : ℕ) (items : List Item) → GoesOn parts (tell items (return_to parts stack.old (record { target = target; value = value }) (thread number ran globals.old) fuel)) items result stack.new (thread number ran globals.new) fuel }
+    ensures { (parts : Parts) (number : ℕ) (ran : Bool) (fuel : ℕ) (items : List Item)
+        → GoesOn parts
+        (tell items
+        (return_to parts stack.old (record { target = target; value = value })
+        (thread number ran globals.old) fuel)) items result stack.new
+        (thread number ran globals.new) fuel }
 {
     match stack.callers.pop() {
         Some(frame) => Some(resumed(frame, target, value, globals)),

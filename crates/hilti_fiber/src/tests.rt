@@ -159,9 +159,11 @@ fn run_packet(
     finished: usize,
     opens: u32,
 ) -> Result<Segment, Fail>
-    requires idle { (thread : ℕ) × (calls : List Called) × runs machine.now vt.old thread calls None × (length calls ≡ finished) }
+    requires idle { (thread : ℕ) × (calls : List Called) × runs machine.now vt.old thread calls None
+        × (length calls ≡ finished) }
     requires few { finished < 10 }
-    ensures { IfOk result (λ _. (thread : ℕ) × (calls : List Called) × runs machine.now vt.new thread calls None × (length calls ≡ finished + 1)) }
+    ensures { IfOk result (λ _. (thread : ℕ) × (calls : List Called)
+        × runs machine.now vt.new thread calls None × (length calls ≡ finished + 1)) }
 {
     let packet = call(alloc)?;
     machine.start(vt, packet)?;

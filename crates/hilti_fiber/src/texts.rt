@@ -48,7 +48,10 @@ fn append_operands(
     slots: &Variables,
     globals: &Variables,
 ) -> Result<(), NoMemory>
-    ensures { OnOk result (out.new ≡ out.old ++ join_by (λ operand. text_of (given slots.now globals.now operand)) (codes " ") operands.now) }
+    ensures { OnOk result (out.new
+        ≡ out.old
+        ++ join_by (λ operand. text_of (given slots.now globals.now operand))
+        (codes " ") operands.now) }
 {
     let Some((first, others)) = operands.split_first() else {
         return Ok(());
@@ -68,7 +71,9 @@ pub fn print_line(
     slots: &Variables,
     globals: &Variables,
 ) -> Result<Blob, NoMemory>
-    ensures { IfOk result (λ line. line ≡ join_by (λ operand. text_of (given slots.now globals.now operand)) (codes " ") operands.now) }
+    ensures { IfOk result (λ line. line
+        ≡ join_by (λ operand. text_of (given slots.now globals.now operand))
+        (codes " ") operands.now) }
 {
     let mut line = Blob::new(alloc);
     append_operands(&mut line, operands, slots, globals)?;

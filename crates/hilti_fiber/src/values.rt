@@ -1,6 +1,7 @@
 //! Values: copies, those of trees, and those that variables begin with.
 ghost use Rattle.std.specs.Prelude.{◌≡◌, IfOk, slice_set};
-ghost use Rattle.hilti_meaning.specs.Values.{of_tree, first_value as first_of, truth as truth_of, whole as whole_of};
+ghost use Rattle.hilti_meaning.specs.Values.{of_tree, first_value as first_of, truth as truth_of};
+ghost use Rattle.hilti_meaning.specs.Values.{whole as whole_of};
 
 use hilti_base::{Blob, NoMemory};
 use hilti_frames::Variables;

@@ -9,8 +9,8 @@ pub data Keep : Type 0 where
   Placed : Keep
   Whole : Keep
 
--- what may stand at a place: one token of these kinds, nothing, one symbol and then another, one of two symbols, any
--- number of one symbol, or what a rule says
+-- what may stand at a place: one token of these kinds, nothing, one symbol and then another, one of
+-- two symbols, any number of one symbol, or what a rule says
 pub data Symbol (K R : Type 0) : Type 0 where
   One : Keep → List K → Symbol K R
   Empty : Symbol K R
@@ -28,9 +28,9 @@ pub data Tree (P T : Type 0) : Type 0 where
   Left : Tree P T → Tree P T
   Right : Tree P T → Tree P T
 
--- A grammar over tokens T, whose kinds are K, places P and rules R. `number` tells kinds apart, and `sample` gives a
--- token of a kind. `rules` lists every rule, each at its `index`. After `rounds` rounds over the rules, what is
--- computed of them no longer changes.
+-- A grammar over tokens T, whose kinds are K, places P and rules R. `number` tells kinds apart, and
+-- `sample` gives a token of a kind. `rules` lists every rule, each at its `index`. After `rounds`
+-- rounds over the rules, what is computed of them no longer changes.
 pub record Grammar (K R P T : Type 0) : Type 0 where
   pub kind : T → K
   pub place : T → P

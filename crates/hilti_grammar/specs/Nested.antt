@@ -1,6 +1,10 @@
--- Two small grammars: nested lists, which one token of lookahead reads, and a choice that it doesn't.
+-- Two small grammars: nested lists, which one token of lookahead reads, and a choice that it
+-- doesn't.
 use Rattle.std.specs.Prelude.{ℕ, [], ◌∷◌, refl}
-use Rattle.hilti_grammar.specs.Grammar.{Grammar, Symbol, Symbol.One, Symbol.Empty, Symbol.◌▹◌, Symbol.◌⊕◌, Symbol.Many, Symbol.Rule, Keep.Dropped, Keep.Whole, Tree, Tree.Nothing, Tree.Leaf, Tree.Pair, Tree.Left, Tree.Right}
+use Rattle.hilti_grammar.specs.Grammar.{Grammar, Symbol, Symbol.One, Symbol.Empty, Symbol.◌▹◌}
+use Rattle.hilti_grammar.specs.Grammar.{Symbol.◌⊕◌, Symbol.Many, Symbol.Rule, Keep.Dropped}
+use Rattle.hilti_grammar.specs.Grammar.{Keep.Whole, Tree, Tree.Nothing, Tree.Leaf, Tree.Pair}
+use Rattle.hilti_grammar.specs.Grammar.{Tree.Left, Tree.Right}
 
 pub data Mark : Type 0 where
   Word : Mark
@@ -20,12 +24,14 @@ mark_number Close = 3
 
 -- a value is a word or items in brackets; items are none, or values with commas between them
 abbrev pub nested_body : Name → Symbol Mark Name
-nested_body Value = One Whole (Word ∷ []) ⊕ (One Dropped (Open ∷ []) ▹ (Rule Items ▹ One Dropped (Close ∷ [])))
+nested_body Value =
+    One Whole (Word ∷ []) ⊕ (One Dropped (Open ∷ []) ▹ (Rule Items ▹ One Dropped (Close ∷ [])))
 nested_body Items = (Rule Value ▹ Many (One Dropped (Comma ∷ []) ▹ Rule Value)) ⊕ Empty
 
 -- a value, where items may begin with a comma of their own
 abbrev pub clashing_body : Name → Symbol Mark Name
-clashing_body Value = One Whole (Word ∷ []) ⊕ (One Dropped (Open ∷ []) ▹ (Rule Items ▹ One Dropped (Close ∷ [])))
+clashing_body Value =
+    One Whole (Word ∷ []) ⊕ (One Dropped (Open ∷ []) ▹ (Rule Items ▹ One Dropped (Close ∷ [])))
 clashing_body Items = Many (Rule Value ▹ One Dropped (Comma ∷ [])) ▹ Rule Value
 
 abbrev pub name_index : Name → ℕ
@@ -54,4 +60,7 @@ clashing = grammar_of clashing_body
 
 -- the tree of `[w, []]`
 abbrev pub nested_tree : Tree (Unit {0}) Mark
-nested_tree = Right (Pair Nothing (Pair (Left (Pair (Left (Leaf Word)) (Pair (Pair Nothing (Right (Pair Nothing (Pair (Right Nothing) Nothing)))) Nothing))) Nothing))
+nested_tree =
+    Right (Pair Nothing (Pair (Left (Pair (Left (Leaf Word))
+    (Pair (Pair Nothing (Right (Pair Nothing (Pair (Right Nothing) Nothing)))) Nothing)))
+    Nothing))

@@ -1,7 +1,9 @@
 -- When one token of lookahead is enough to read a grammar. All of it is computed.
-use Rattle.std.specs.Prelude.{ℕ, zero, suc, Bool, true, false, cond, not, ◌&&◌, ◌||◌, List, [], ◌∷◌, map, get_or}
+use Rattle.std.specs.Prelude.{ℕ, zero, suc, Bool, true, false, cond, not, ◌&&◌, ◌||◌, List, [], ◌∷◌}
+use Rattle.std.specs.Prelude.{map, get_or}
 use Rattle.std.specs.List.{list_all}
-use Rattle.hilti_grammar.specs.Grammar.{Grammar, Symbol, Symbol.One, Symbol.Empty, Symbol.◌▹◌, Symbol.◌⊕◌, Symbol.Many, Symbol.Rule, has}
+use Rattle.hilti_grammar.specs.Grammar.{Grammar, Symbol, Symbol.One, Symbol.Empty, Symbol.◌▹◌}
+use Rattle.hilti_grammar.specs.Grammar.{Symbol.◌⊕◌, Symbol.Many, Symbol.Rule, has}
 
 -- the kinds of both sets
 abbrev pub union : {K R P T : Type 0} → Grammar K R P T → List K → List K → List K
@@ -18,8 +20,9 @@ abbrev pub within : {K R P T : Type 0} → Grammar K R P T → List K → List K
 within g [] ys = true
 within g (x ∷ xs) ys = has g ys x && within g xs ys
 
--- What is known of a symbol: whether it derives the list without tokens, whether it derives some list, which kinds
--- begin its lists, and which kinds can go on behind a whole list of it in a longer one.
+-- What is known of a symbol: whether it derives the list without tokens, whether it derives some
+-- list, which kinds begin its lists, and which kinds can go on behind a whole list of it in a
+-- longer one.
 pub record Known (K : Type 0) : Type 0 where
   pub empty : Bool
   pub fruitful : Bool
@@ -37,7 +40,8 @@ where_so b set = cond b set []
 
 -- what is known of a symbol, from what is known of each rule
 abbrev pub known : {K R P T : Type 0} → Grammar K R P T → (R → Known K) → Symbol K R → Known K
-known g of_rule (One keep set) = record { empty = false; fruitful = has_sample g set; first = set; more = [] }
+known g of_rule (One keep set) =
+    record { empty = false; fruitful = has_sample g set; first = set; more = [] }
 known g of_rule Empty = record { empty = true; fruitful = true; first = []; more = [] }
 known g of_rule (a ▹ b) =
     let x = known g of_rule a in
@@ -55,7 +59,9 @@ known g of_rule (a ⊕ b) =
       empty = x.empty || y.empty;
       fruitful = x.fruitful || y.fruitful;
       first = union g x.first y.first;
-      more = union g (union g x.more y.more) (union g (where_so y.empty x.first) (where_so x.empty y.first));
+      more =
+          union g (union g x.more y.more)
+          (union g (where_so y.empty x.first) (where_so x.empty y.first));
     }
 known g of_rule (Many a) =
     let x = known g of_rule a in
@@ -75,18 +81,27 @@ abbrev pub table : {K R P T : Type 0} → Grammar K R P T → ℕ → List (Know
 table g zero = []
 table g (suc n) = let before = table g n in map (λ r. known g (told g before) (g.body r)) g.rules
 
--- Whether one token tells how to go on everywhere in a symbol: no kind begins the second of two symbols and also goes
--- on behind the first; no kind begins two alternatives, and the first of them is never empty; no kind begins a
--- repeated symbol and also goes on behind it, and it is never empty. What comes after a symbol derives something.
+-- Whether one token tells how to go on everywhere in a symbol: no kind begins the second of two
+-- symbols and also goes on behind the first; no kind begins two alternatives, and the first of them
+-- is never empty; no kind begins a repeated symbol and also goes on behind it, and it is never
+-- empty. What comes after a symbol derives something.
 abbrev pub fits : {K R P T : Type 0} → Grammar K R P T → (R → Known K) → Symbol K R → Bool
 fits g of_rule (One keep set) = has_sample g set
 fits g of_rule Empty = true
 fits g of_rule (a ▹ b) =
-    fits g of_rule a && (fits g of_rule b && ((known g of_rule b).fruitful && apart g (known g of_rule a).more (known g of_rule b).first))
+    fits g of_rule a &&
+    (fits g of_rule b &&
+    ((known g of_rule b).fruitful && apart g (known g of_rule a).more
+    (known g of_rule b).first))
 fits g of_rule (a ⊕ b) =
-    fits g of_rule a && (fits g of_rule b && (not (known g of_rule a).empty && apart g (known g of_rule a).first (known g of_rule b).first))
+    fits g of_rule a &&
+    (fits g of_rule b &&
+    (not (known g of_rule a).empty && apart g (known g of_rule a).first
+    (known g of_rule b).first))
 fits g of_rule (Many a) =
-    fits g of_rule a && (not (known g of_rule a).empty && apart g (known g of_rule a).more (known g of_rule a).first)
+    fits g of_rule a &&
+    (not (known g of_rule a).empty && apart g (known g of_rule a).more
+    (known g of_rule a).first)
 fits g of_rule (Rule r) = true
 
 -- whether a first condition brings the second

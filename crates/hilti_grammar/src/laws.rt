@@ -6,7 +6,8 @@ ghost use Rattle.hilti_grammar.specs.Grammar.{Grammar, Symbol.Rule};
 ghost use Rattle.hilti_grammar.specs.Derives.{Derives};
 ghost use Rattle.hilti_grammar.specs.Predictive.{is_predictive};
 ghost use Rattle.hilti_grammar.specs.Runs.{Faults};
-ghost use Rattle.hilti_grammar.specs.Nested.{Mark.Word, Mark.Open, Mark.Comma, Mark.Close, Name.Value, nested, clashing, nested_tree};
+ghost use Rattle.hilti_grammar.specs.Nested.{Mark.Word, Mark.Open, Mark.Comma, Mark.Close};
+ghost use Rattle.hilti_grammar.specs.Nested.{Name.Value, nested, clashing, nested_tree};
 ghost use Rattle.hilti_grammar.specs.Exact.{ReadsExactly, ReadsWhole, RefusesFirst, HasOneTree};
 
 /// Reading a rule of a predictive grammar is exact. Where it gives a tree, the tokens used derive that tree and no
@@ -38,6 +39,7 @@ pub fn one_tree<K, R, P, T>()
 /// or by none, one token doesn't tell whether another value comes.
 pub fn nested_lists()
     ensures predictive { IsTrue (is_predictive nested) }
-    ensures derives { Derives nested (Rule Value) (Open ∷ Word ∷ Comma ∷ Open ∷ Close ∷ Close ∷ []) nested_tree }
+    ensures derives { Derives nested (Rule Value) (Open ∷ Word ∷ Comma ∷ Open ∷ Close ∷ Close
+        ∷ []) nested_tree }
     ensures clashing { is_predictive clashing ≡ false }
 {}

@@ -1,2 +1,3 @@
 pub mod Readings
 pub mod Shifts
+pub mod Unwrapped

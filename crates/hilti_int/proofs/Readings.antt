@@ -33,7 +33,7 @@ unsigned_of_signed bits a fits = elim (signed_cases bits a) [
 ]
 
 -- 2 ^ bits is twice the half
-doubled : (bits : ℕ) → 1 ≤ bits → 2 ^ bits ≡ 2 * 2 ^ (bits - 1)
+pub doubled : (bits : ℕ) → 1 ≤ bits → 2 ^ bits ≡ 2 * 2 ^ (bits - 1)
 doubled bits some = let split : bits ≡ 1 + (bits - 1) = omega arith in ap (λ n. 2 ^ n) split ∙ pow-add 2 1 (bits - 1)
 
 pub signed_above : (bits a : ℕ) → 1 ≤ bits → a < 2 ^ bits → neg_ℤ (pos (2 ^ (bits - 1))) ≤ℤ signed bits a
@@ -96,7 +96,7 @@ same_difference bits a b fits = elim (signed_cases bits a) [
 ]
 
 -- a number of the upper half, as the negative number that it means
-upper_is : (bits a p : ℕ) → a + suc p ≡ 2 ^ bits → pos a -ℤ pos (2 ^ bits) ≡ negsuc p
+pub upper_is : (bits a p : ℕ) → a + suc p ≡ 2 ^ bits → pos a -ℤ pos (2 ^ bits) ≡ negsuc p
 upper_is bits a p e = omega (arith, ints, e)
 
 -- (m - p) (m - q) is p q less a multiple of m
@@ -149,13 +149,13 @@ no_sign bits a by fits far lower =
     ap (λ z. wrapped bits (int_shr z by)) meant ∙ ap (λ n. n % 2 ^ bits) (shifted_right bits a by fits far) ∙ mod-eq_of_lt (pow_pos bits)
 
 -- the least number, and -1
-least_is : (bits : ℕ) → 1 ≤ bits → signed bits (2 ^ (bits - 1)) ≡ negsuc (2 ^ (bits - 1) - 1)
+pub least_is : (bits : ℕ) → 1 ≤ bits → signed bits (2 ^ (bits - 1)) ≡ negsuc (2 ^ (bits - 1) - 1)
 least_is bits some = elim (signed_cases bits (2 ^ (bits - 1))) [
   | inl h ↦ absurd (omega (arith, h.0, doubled bits some))
   | inr h ↦ h.1 ∙ upper_is bits (2 ^ (bits - 1)) (2 ^ (bits - 1) - 1) (omega (arith, doubled bits some, pow_pos (bits - 1)))
 ]
 
-minus_one_is : (bits : ℕ) → 1 ≤ bits → signed bits (2 ^ bits - 1) ≡ negsuc 0
+pub minus_one_is : (bits : ℕ) → 1 ≤ bits → signed bits (2 ^ bits - 1) ≡ negsuc 0
 minus_one_is bits some = elim (signed_cases bits (2 ^ bits - 1)) [
   | inl h ↦ absurd (omega (arith, h.0, doubled bits some, pow_pos (bits - 1)))
   | inr h ↦ h.1 ∙ upper_is bits (2 ^ bits - 1) 0 (omega (arith, pow_pos bits))

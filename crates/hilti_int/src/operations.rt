@@ -1,13 +1,15 @@
 ghost use Rattle.std.specs.Prelude.{◌≡◌, ◌^◌, ◌<◌, ◌↔◌, IfOk, IsTrue, Err};
-ghost use Rattle.hilti_int.specs.Integers.{bits_of, divides, outcome_of};
+ghost use Rattle.hilti_int.specs.Integers.{bits_of, divides, outcome_of, overflows};
 
+use crate::exact::{exact_product, exact_quotient, exact_shift, exact_sum};
 use crate::twos_complement::{
     difference, shift_left, shift_right, signed_quotient, signed_remainder, signed_shift,
 };
 use crate::width::{Width, fit};
 use hilti_base::Raise;
 
-/// The operations on two whole numbers of one width. Those that begin with an S read them in two's complement.
+/// The operations on two whole numbers of one width. `Sdiv`, `Smod`, `Sshr` and `SdivExact` read them in two's
+/// complement. Those that end with `Exact` raise where the exact result doesn't fit the width, and the others wrap.
 #[derive(Clone, Copy, Debug, PartialEq, Eq)]
 pub enum IntOp {
     Add,
@@ -23,14 +25,21 @@ pub enum IntOp {
     Shl,
     Shr,
     Sshr,
+    AddExact,
+    SubExact,
+    MulExact,
+    ShlExact,
+    SdivExact,
 }
 
-/// What an operation gives. A division or remainder by 0 raises `DivisionByZero`, and nothing else raises.
+/// What an operation gives. A division or remainder by 0 raises `DivisionByZero`, and an exact operation whose result
+/// doesn't fit the width `ValueError`; nothing else raises.
 pub fn apply(op: IntOp, width: Width, a: u64, b: u64) -> Result<u64, Raise>
     requires a_fits { a < 2 ^ bits_of width }
     requires b_fits { b < 2 ^ bits_of width }
     ensures outcome { result ≡ outcome_of op (bits_of width) a b }
-    ensures raises { result ≡ Err Raise.DivisionByZero ↔ (IsTrue (divides op) × (b ≡ 0)) }
+    ensures division { result ≡ Err Raise.DivisionByZero ↔ (IsTrue (divides op) × (b ≡ 0)) }
+    ensures overflow { result ≡ Err Raise.ValueError ↔ IsTrue (overflows op (bits_of width) a b) }
     ensures fits { IfOk result (λ n. n < 2 ^ bits_of width) }
 {
     match op {
@@ -49,5 +58,10 @@ pub fn apply(op: IntOp, width: Width, a: u64, b: u64) -> Result<u64, Raise>
         IntOp::Shl => Ok(shift_left(width, a, b)),
         IntOp::Shr => Ok(shift_right(a, b)),
         IntOp::Sshr => Ok(signed_shift(width, a, b)),
+        IntOp::AddExact => exact_sum(width, a, b),
+        IntOp::SubExact => a.checked_sub(b).ok_or(Raise::ValueError),
+        IntOp::MulExact => exact_product(width, a, b),
+        IntOp::ShlExact => exact_shift(width, a, b),
+        IntOp::SdivExact => exact_quotient(width, a, b),
     }
 }

@@ -5,7 +5,7 @@ use std::test::Fail;
 
 type Row = (IntOp, Width, u64, u64, u64);
 
-const ROWS: [Row; 24] = [
+const ROWS: [Row; 32] = [
     (IntOp::Add, Width::W8, 255, 1, 0),
     (IntOp::Sub, Width::W16, 65529, 65534, 65531),
     (IntOp::Sub, Width::W64, 0, 1, 18446744073709551615),
@@ -48,6 +48,35 @@ const ROWS: [Row; 24] = [
         63,
         18446744073709551615,
     ),
+    (IntOp::AddExact, Width::W8, 254, 1, 255),
+    (IntOp::SubExact, Width::W8, 3, 3, 0),
+    (
+        IntOp::MulExact,
+        Width::W64,
+        4294967295,
+        4294967297,
+        18446744073709551615,
+    ),
+    (IntOp::ShlExact, Width::W8, 64, 1, 128),
+    (IntOp::ShlExact, Width::W64, 1, 63, 9223372036854775808),
+    (IntOp::ShlExact, Width::W8, 0, 200, 0),
+    (IntOp::SdivExact, Width::W16, 65529, 65534, 3),
+    (IntOp::SdivExact, Width::W8, 249, 2, 253),
+];
+
+const RAISING: [(IntOp, Width, u64, u64); 7] = [
+    (IntOp::AddExact, Width::W8, 255, 1),
+    (IntOp::SubExact, Width::W16, 65529, 65534),
+    (IntOp::MulExact, Width::W64, 4294967296, 4294967296),
+    (IntOp::ShlExact, Width::W8, 128, 1),
+    (IntOp::ShlExact, Width::W64, 1, 64),
+    (IntOp::SdivExact, Width::W8, 128, 255),
+    (
+        IntOp::SdivExact,
+        Width::W64,
+        9223372036854775808,
+        18446744073709551615,
+    ),
 ];
 
 #[test]
@@ -56,10 +85,27 @@ fn applies(rt: HostRuntime) -> Result<(), Fail> {
         let answer = apply(op, width, fit(width, a), fit(width, b));
         assert_eq!(rt; answer, Ok(expected), "{op:?} {a} {b}");
     }
-    for op in [IntOp::Div, IntOp::Mod, IntOp::Sdiv, IntOp::Smod] {
+    for op in [
+        IntOp::Div,
+        IntOp::Mod,
+        IntOp::Sdiv,
+        IntOp::Smod,
+        IntOp::SdivExact,
+    ] {
         let answer = apply(op, Width::W8, 1, 0);
         assert_eq!(rt; answer, Err(Raise::DivisionByZero), "{op:?}");
     }
+    Ok(())
+}
+
+#[test]
+fn exact_results_fit(rt: HostRuntime) -> Result<(), Fail> {
+    for (op, width, a, b) in RAISING {
+        let answer = apply(op, width, fit(width, a), fit(width, b));
+        assert_eq!(rt; answer, Err(Raise::ValueError), "{op:?} {a} {b}");
+    }
+    assert_eq!(rt; fit_exact(Width::W8, 255), Ok(255));
+    assert_eq!(rt; fit_exact(Width::W8, 256), Err(Raise::ValueError));
     Ok(())
 }
 

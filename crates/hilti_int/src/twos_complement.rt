@@ -1,6 +1,7 @@
-ghost use Rattle.std.specs.Prelude.{◌≡◌, ◌≢◌, ◌*◌, ◌^◌, ◌%◌, ◌/◌, ◌<◌, ◌≤◌, ◌↔◌, IsTrue, unsigned_abs, int_div, int_rem, pos, ◌-ℤ◌};
-ghost use Rattle.std.specs.Int.{int_shr};
-ghost use Rattle.hilti_int.specs.Integers.{bits_of, signed, wrapped};
+ghost use Rattle.std.specs.Prelude.{◌≡◌, ◌≢◌, ◌*◌, ◌^◌, ◌%◌, ◌/◌, ◌<◌, ◌≤◌, ◌↔◌, IsTrue};
+ghost use Rattle.std.specs.Prelude.{unsigned_abs, pos, ◌-ℤ◌};
+ghost use Rattle.hilti_int.specs.Integers.{bits_of, signed, value_of, wrapped};
+ghost use Rattle.hilti_int.specs.declared.operations.IntOp.TheVariants.{Sdiv, Smod, Sshr};
 
 use crate::width::{Width, fit};
 
@@ -36,7 +37,7 @@ pub fn signed_quotient(width: Width, a: u64, b: u64) -> u64
     requires a_fits { a < 2 ^ bits_of width }
     requires b_fits { b < 2 ^ bits_of width }
     requires not_zero { b ≢ 0 }
-    ensures { result ≡ wrapped (bits_of width) (int_div (signed (bits_of width) a) (signed (bits_of width) b)) }
+    ensures { result ≡ value_of Sdiv (bits_of width) a b }
 {
     let quotient = magnitude(width, a) / magnitude(width, b);
     if is_negative(width, a) == is_negative(width, b) {
@@ -51,7 +52,7 @@ pub fn signed_remainder(width: Width, a: u64, b: u64) -> u64
     requires a_fits { a < 2 ^ bits_of width }
     requires b_fits { b < 2 ^ bits_of width }
     requires not_zero { b ≢ 0 }
-    ensures { result ≡ wrapped (bits_of width) (int_rem (signed (bits_of width) a) (signed (bits_of width) b)) }
+    ensures { result ≡ value_of Smod (bits_of width) a b }
 {
     let remainder = magnitude(width, a) % magnitude(width, b);
     if is_negative(width, a) {
@@ -64,7 +65,7 @@ pub fn signed_remainder(width: Width, a: u64, b: u64) -> u64
 /// The number shifted to the right, filled with its sign; all sign bits where `by` is the width's bits or more.
 pub fn signed_shift(width: Width, a: u64, by: u64) -> u64
     requires { a < 2 ^ bits_of width }
-    ensures { result ≡ wrapped (bits_of width) (int_shr (signed (bits_of width) a) by) }
+    ensures { result ≡ value_of Sshr (bits_of width) a by }
 {
     if is_negative(width, a) {
         let ones = width.max();

@@ -1,16 +1,19 @@
 -- A numeral has one form and one value.
-use Rattle.std.proofs.Common.{◌≡◌, ℕ, ◌+◌, ◌-◌, ◌*◌, ◌^◌, ◌<◌, ◌≤◌, List, [], ◌∷◌, ◌++◌, length, get_or, refl, sym, ap, ◌∙◌, subst, inl, inr, arith, Bool, true, false, eqb, cond, drop}
+use Rattle.std.proofs.Common.{◌≡◌, ℕ, ◌+◌, ◌<◌, ◌≤◌, List, [], ◌∷◌, ◌++◌, refl, sym, ap, ◌∙◌, subst, inl, inr, arith, Bool, true, false, eqb, cond, drop}
 use Rattle.std.proofs.lemmas.Bool.Decides.{nat_tests}
 use Rattle.std.specs.Char.{digit_value}
 use Rattle.std.specs.Str.Parse.{AllDigits, digits_value}
-use Rattle.hilti_addr.specs.Texts.{IsAddress, IsNet, IsNumber, IsPort, net_of, protocol}
+use Rattle.hilti_addr.specs.Texts.{IsAddress, IsNet, IsPort, protocol}
 use Rattle.hilti_addr.specs.declared.net.Net.{Net as NetValue}
 use Rattle.hilti_addr.specs.declared.port.Port.{Port as PortValue}
-use Rattle.hilti_addr.proofs.Forms.{address_lacks}
-use Rattle.hilti_addr.proofs.Splits.{Lacks, digits_lack, one_split}
+use Rattle.hilti_addr.proofs.Forms.{one_address, one_net, one_port}
+use Rattle.hilti_base.specs.Numerals.{IsNumber, greatest}
+use Rattle.hilti_base.proofs.Splits.{one_number}
+use Rattle.hilti_clock.specs.Numerals.{IsDecimal}
+use Rattle.hilti_clock.proofs.Decimals.{one_decimal}
 use Rattle.hilti_lexer.specs.declared.token.TokenKind.{TokenKind}
 use Rattle.hilti_lexer.specs.declared.token.TokenKind.TheVariants.{Word, Number, Decimal, Address, Net, Port, Text, Bytes, Mark, LineEnd}
-use Rattle.hilti_lexer.specs.Numerals.{IsDecimal, IsHex, IsNumeralOf, most}
+use Rattle.hilti_lexer.specs.Numerals.{IsHex, IsNumeralOf}
 
 -- one for each point, and ten for each slash
 weight : ℕ → ℕ
@@ -32,8 +35,8 @@ digits_weigh : (base : ℕ) (text : List ℕ) → base ≤ 16 → AllDigits base
 digits_weigh base [] small digits = refl
 digits_weigh base (c ∷ cs) small digits = omega (arith, digit_weight c (omega (arith, digits.0)), digits_weigh base cs small digits.1)
 
-number_weighs : (greatest : ℕ) (text : List ℕ) (n : ℕ) → IsNumber greatest text n → weigh text ≡ 0
-number_weighs greatest text n is = digits_weigh 10 text (omega arith) is.digits.1
+number_weighs : (most : ℕ) (text : List ℕ) (n : ℕ) → IsNumber most text n → weigh text ≡ 0
+number_weighs most text n is = digits_weigh 10 text (omega arith) is.digits.1
 
 hex_weighs : (text : List ℕ) (n : ℕ) → IsHex text n → weigh text ≡ 0
 unfolding weight
@@ -45,7 +48,7 @@ split_weighs front at back = weigh-append front (at ∷ back)
 decimal_weighs : (text : List ℕ) (seconds nanos : ℕ) → IsDecimal text seconds nanos → weigh text ≡ 1
 unfolding weight
 decimal_weighs text seconds nanos is =
-    omega (arith, ap weigh is.parts, split_weighs is.front 46 is.fraction, number_weighs most is.front seconds is.whole, digits_weigh 10 is.fraction (omega arith) is.digits.1)
+    omega (arith, ap weigh is.parts, split_weighs is.front 46 is.fraction, number_weighs greatest is.front seconds is.whole, digits_weigh 10 is.fraction (omega arith) is.behind.digits.1)
 
 address_weighs : (text : List ℕ) (address : ℕ) → IsAddress text address → weigh text ≡ 3
 unfolding weight
@@ -91,7 +94,7 @@ weight_of (Mark _) = 0
 weight_of LineEnd = 0
 
 weighs : (text : List ℕ) (kind : TokenKind) → IsNumeralOf text kind → weigh text ≡ weight_of kind
-weighs text (Number n) is = elim is [ inl number ↦ number_weighs most text n number | inr hex ↦ hex_weighs text n hex ]
+weighs text (Number n) is = elim is [ inl number ↦ number_weighs greatest text n number | inr hex ↦ hex_weighs text n hex ]
 weighs text (Decimal seconds nanos) is = decimal_weighs text seconds nanos is
 weighs text (Address address) is = address_weighs text address is
 weighs text (Net address len) is = net_weighs text _ is
@@ -102,66 +105,12 @@ weighs text (Bytes _) is = absurd is
 weighs text (Mark _) is = absurd is
 weighs text LineEnd is = absurd is
 
-one_number : (greatest : ℕ) (text : List ℕ) (n m : ℕ) → IsNumber greatest text n → IsNumber greatest text m → n ≡ m
-one_number greatest text n m is other = is.value ∙ sym other.value
-
-no_hex : (text : List ℕ) (n m : ℕ) → IsNumber most text n → ¬ (IsHex text m)
+no_hex : (text : List ℕ) (n m : ℕ) → IsNumber greatest text n → ¬ (IsHex text m)
 no_hex text n m is hex = let digits = subst (AllDigits 10) hex.parts is.digits.1 in absurd (omega (arith, digits.1.0))
 
 one_hex : (text : List ℕ) (n m : ℕ) → IsHex text n → IsHex text m → n ≡ m
 one_hex text n m is other =
     let same : is.digits ≡ other.digits = ap (drop 2) (sym is.parts ∙ other.parts) in is.value ∙ ap (digits_value 16) same ∙ sym other.value
-
-number_lacks : (at greatest : ℕ) (text : List ℕ) (n : ℕ) → at < 48 → IsNumber greatest text n → Lacks at text
-number_lacks at greatest text n low is = digits_lack at text low is.digits.1
-
-pub record AreEqual (a b c d : ℕ) : Type 0 where
-  pub first : a ≡ c
-  pub second : b ≡ d
-
-one_decimal : (text : List ℕ) (seconds nanos seconds' nanos' : ℕ) → IsDecimal text seconds nanos → IsDecimal text seconds' nanos' → AreEqual seconds nanos seconds' nanos'
-one_decimal text seconds nanos seconds' nanos' is other =
-    let both = one_split 46 is.front other.front is.fraction other.fraction (number_lacks 46 most is.front seconds (omega arith) is.whole)
-    (number_lacks 46 most other.front seconds' (omega arith) other.whole) (sym is.parts ∙ other.parts) in
-    record {
-      first = is.whole.value ∙ ap (digits_value 10) both.0 ∙ sym other.whole.value;
-      second = is.value ∙ ap (λ l. digits_value 10 l * 10 ^ (9 - length l)) both.1 ∙ sym other.value;
-    }
-
-one_address : (text : List ℕ) (address address' : ℕ) → IsAddress text address → IsAddress text address' → address ≡ address'
-one_address text address address' is other =
-    let one = one_split 46 is.first other.first _ _ (number_lacks 46 255 is.first is.a (omega arith) is.at_first)
-    (number_lacks 46 255 other.first other.a (omega arith) other.at_first) (sym is.parts ∙ other.parts) in
-    let two = one_split 46 is.second other.second _ _ (number_lacks 46 255 is.second is.b (omega arith) is.at_second)
-    (number_lacks 46 255 other.second other.b (omega arith) other.at_second) one.1 in
-    let three = one_split 46 is.third other.third _ _ (number_lacks 46 255 is.third is.c (omega arith) is.at_third)
-    (number_lacks 46 255 other.third other.c (omega arith) other.at_third) two.1 in
-    let a : is.a ≡ other.a = is.at_first.value ∙ ap (digits_value 10) one.0 ∙ sym other.at_first.value in
-    let b : is.b ≡ other.b = is.at_second.value ∙ ap (digits_value 10) two.0 ∙ sym other.at_second.value in
-    let c : is.c ≡ other.c = is.at_third.value ∙ ap (digits_value 10) three.0 ∙ sym other.at_third.value in
-    let d : is.d ≡ other.d = is.at_fourth.value ∙ ap (digits_value 10) three.1 ∙ sym other.at_fourth.value in
-    let value = is.value in let value' = other.value in
-    omega (arith, value, value', a, b, c, d)
-
-one_net : (text : List ℕ) (net net' : NetValue) → IsNet text net → IsNet text net' → net ≡ net'
-one_net text net net' is other =
-    let both = one_split 47 is.front other.front is.back other.back (address_lacks is.front is.address is.at_front) (address_lacks other.front other.address other.at_front)
-    (sym is.parts ∙ other.parts) in
-    let address : is.address ≡ other.address = one_address is.front is.address other.address is.at_front (subst (λ l. IsAddress l other.address) (sym both.0) other.at_front) in
-    let len : is.len ≡ other.len = is.at_back.value ∙ ap (digits_value 10) both.1 ∙ sym other.at_back.value in
-    is.value ∙ ap (λ n. net_of n is.len) address ∙ ap (λ n. net_of other.address n) len ∙ sym other.value
-
-one_protocol : (udp udp' : Bool) → protocol udp ≡ protocol udp' → udp ≡ udp'
-one_protocol true true e = refl
-one_protocol false false e = refl
-one_protocol true false e = let first : 117 ≡ 116 = ap (λ l. get_or l 0 0) e in absurd (omega (arith, first))
-one_protocol false true e = let first : 116 ≡ 117 = ap (λ l. get_or l 0 0) e in absurd (omega (arith, first))
-
-one_port : (text : List ℕ) (port port' : PortValue) → IsPort text port → IsPort text port' → (port.number ≡ port'.number) × (port.udp ≡ port'.udp)
-one_port text port port' is other =
-    let both = one_split 47 is.front other.front (protocol port.udp) (protocol port'.udp) (number_lacks 47 65535 is.front port.number (omega arith) is.at_front)
-    (number_lacks 47 65535 other.front port'.number (omega arith) other.at_front) (sym is.parts ∙ other.parts) in
-    (is.at_front.value ∙ ap (digits_value 10) both.0 ∙ sym other.at_front.value, one_protocol port.udp port'.udp both.1)
 
 -- the text of a numeral is of one kind, with one value
 pub one_numeral : (text : List ℕ) (kind kind' : TokenKind) → IsNumeralOf text kind → IsNumeralOf text kind' → kind ≡ kind'
@@ -176,14 +125,14 @@ one_numeral text kind (Bytes _) is other = absurd other
 one_numeral text kind (Mark _) is other = absurd other
 one_numeral text kind LineEnd is other = absurd other
 one_numeral text (Number n) (Number m) is other = elim is [
-  | inl number ↦ elim other [ inl number' ↦ ap (λ k. Number k) (one_number most text n m number number') | inr hex' ↦ absurd (no_hex text n m number hex') ]
+  | inl number ↦ elim other [ inl number' ↦ ap (λ k. Number k) (one_number greatest text n m number number') | inr hex' ↦ absurd (no_hex text n m number hex') ]
   | inr hex ↦ elim other [ inl number' ↦ absurd (no_hex text m n number' hex) | inr hex' ↦ ap (λ k. Number k) (one_hex text n m hex hex') ]
 ]
 one_numeral text (Decimal seconds nanos) (Decimal seconds' nanos') is other =
     let same = one_decimal text seconds nanos seconds' nanos' is other in
-    ap (λ s. Decimal s nanos) same.first ∙ ap (λ n. Decimal seconds' n) same.second
+    ap (λ s. Decimal s nanos) same.0 ∙ ap (λ n. Decimal seconds' n) same.1
 one_numeral text (Address address) (Address address') is other = ap (λ a. Address a) (one_address text address address' is other)
 one_numeral text (Net address len) (Net address' len') is other = ap (λ (n : NetValue). Net n.addr n.len) (one_net text _ _ is other)
 one_numeral text (Port number udp) (Port number' udp') is other =
-    let same = one_port text _ _ is other in ap (λ n. Port n udp) same.0 ∙ ap (λ u. Port number' u) same.1
+    ap (λ (p : PortValue). Port p.number p.udp) (one_port text _ _ is other)
 one_numeral text kind kind' is other = let one = weighs text kind is in let two = weighs text kind' other in absurd (omega (arith, one, two))

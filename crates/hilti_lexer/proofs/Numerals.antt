@@ -1,32 +1,17 @@
 -- The parts of numerals.
-use Rattle.std.proofs.Common.{◌≡◌, ◌≢◌, ℕ, ◌^◌, ◌<◌, ◌≤◌, List, [], ◌∷◌, ◌++◌, length, get_or, refl, sym, ap, ◌∙◌, subst, inl, inr, arith, Bool, true, false, not, IsTrue, eqb, drop}
+use Rattle.std.proofs.Common.{◌≡◌, ◌≢◌, ℕ, ◌^◌, ◌<◌, List, [], ◌∷◌, length, get_or, refl, sym, ap, ◌∙◌, subst, inl, inr, arith, Bool, true, false, not, IsTrue, eqb, drop}
 use Rattle.std.specs.Prelude.{Option, Some, None, IsNone, IfSome}
 use Rattle.std.specs.Option.{is_some}
 use Rattle.std.specs.Char.{is_ascii_digit}
 use Rattle.std.specs.List.{list_all}
 use Rattle.std.specs.Str.Parse.{AllDigits, digits_value, IsNumeral}
 use Rattle.std.proofs.lemmas.Bool.{cases_lt}
-use Rattle.hilti_addr.specs.Texts.{IsNumber}
-use Rattle.hilti_addr.proofs.Splits.{digits_lack, lacks_by_place, one_split, somewhere}
+use Rattle.hilti_base.specs.Numerals.{IsNumber, greatest}
 use Rattle.hilti_lexer.proofs.Digits.{all_digits, digits_pass}
-use Rattle.hilti_lexer.specs.Numerals.{IsDecimal, IsHex, IsTooBig, most}
-
--- no point, no Decimal
-pub no_point : (text : List ℕ) → ((k : ℕ) → k < length text → get_or text k 0 ≢ 46) → (seconds nanos : ℕ) → ¬ (IsDecimal text seconds nanos)
-no_point text nowhere seconds nanos is = somewhere 46 text is.front is.fraction is.parts nowhere
-
--- the parts of a Decimal are those around the first point
-pub decimal_parts : (text front back : List ℕ) (seconds nanos : ℕ) → text ≡ front ++ 46 ∷ back → ((k : ℕ) → k < length front → get_or front k 0 ≢ 46)
-    → IsDecimal text seconds nanos → IsNumber most front seconds × IsNumeral 10 back × (length back ≤ 9)
-decimal_parts text front back seconds nanos e first is =
-    let both = one_split 46 front is.front back is.fraction (lacks_by_place 46 front first) (digits_lack 46 is.front (omega arith) is.whole.digits.1) (sym e ∙ is.parts) in (
-      subst (λ f. IsNumber most f seconds) (sym both.0) is.whole,
-      subst (IsNumeral 10) (sym both.1) is.digits,
-      omega (arith, ap length both.1, is.short),
-    )
+use Rattle.hilti_lexer.specs.Numerals.{IsHex, IsTooBig}
 
 -- digits without a leading zero that write no Number are too big
-pub too_big : (text : List ℕ) → 0 < length text → get_or text 0 0 ≢ 48 → AllDigits 10 text → ((n : ℕ) → ¬ (IsNumber most text n)) → IsTooBig text
+pub too_big : (text : List ℕ) → 0 < length text → get_or text 0 0 ≢ 48 → AllDigits 10 text → ((n : ℕ) → ¬ (IsNumber greatest text n)) → IsTooBig text
 too_big text some plain digits none = record {
   digits = (some, digits);
   plain = plain;
@@ -36,12 +21,12 @@ too_big text some plain digits none = record {
   ];
 }
 
-pub not_too_big : (text : List ℕ) (n : ℕ) → IsNumber most text n → ¬ (IsTooBig text)
+pub not_too_big : (text : List ℕ) (n : ℕ) → IsNumber greatest text n → ¬ (IsTooBig text)
 not_too_big text n is big = let small = is.small in let value = is.value in let above = big.big in absurd (omega (arith, small, value, above))
 
 -- whether such digits write no Number tells whether they are too big
-pub big_exactly : (text : List ℕ) (answer : Option ℕ) (is_none : Bool) → is_some answer ≡ not is_none → IfSome answer (λ n. IsNumber most text n)
-    → (IsNone answer → (n : ℕ) → ¬ (IsNumber most text n)) → 0 < length text → get_or text 0 0 ≢ 48 → list_all is_ascii_digit text ≡ true
+pub big_exactly : (text : List ℕ) (answer : Option ℕ) (is_none : Bool) → is_some answer ≡ not is_none → IfSome answer (λ n. IsNumber greatest text n)
+    → (IsNone answer → (n : ℕ) → ¬ (IsNumber greatest text n)) → 0 < length text → get_or text 0 0 ≢ 48 → list_all is_ascii_digit text ≡ true
     → (IsTrue is_none → IsTooBig text) × (IsTooBig text → IsTrue is_none)
 big_exactly text None true told some none filled plain digits = (λ _. too_big text filled plain (all_digits text digits) (none refl), λ _. refl)
 big_exactly text None false told some none filled plain digits = absurd (cc)

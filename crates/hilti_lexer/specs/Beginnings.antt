@@ -8,9 +8,15 @@ use Rattle.hilti_lexer.specs.Characters.{begins_word, is_mark}
 -- what a byte begins, whatever follows it
 abbrev pub byte_begins : ℕ → Beginning
 byte_begins c =
-    if c == 10 then LineEnd else if begins_word c then Word else if is_ascii_digit c then Numeral else if c == 34 then Text else if is_mark c then Mark else Nothing
+    if c == 10 then LineEnd
+    else if begins_word c then Word
+    else if is_ascii_digit c then Numeral
+    else if c == 34 then Text
+    else if is_mark c then Mark
+    else Nothing
 
--- what the front of a text begins: the longest token, so that `b"` begins a bytes literal and `::` is one mark
+-- what the front of a text begins: the longest token, so that `b"` begins a bytes literal and
+-- `::` is one mark
 abbrev pub beginning_of : List ℕ → Beginning
 beginning_of text =
     if (slice_index text 0 == 98) && (slice_index text 1 == 34) then Bytes

@@ -28,6 +28,9 @@ is_numeral_byte c = (is_ascii_alphanumeric c || (c == 46)) || (c == 47)
 abbrev pub is_mark : ℕ → Bool
 is_mark c = list_any (λ mark. mark == c) (codes "{}()<>,:.=@*")
 
--- a byte that stands for itself in a string: `09`, `20` to `7e` and `80` to `ff`, without `"` and `\`
+-- a byte that stands for itself in a string: `09`, `20` to `7e` and `80` to `ff`, without `"` and
+-- `\`
 abbrev pub is_plain : ℕ → Bool
-is_plain c = ((c == 9) || (is_in_range 32 126 c || is_in_range 128 255 c)) && (not (c == 34) && not (c == 92))
+is_plain c =
+    ((c == 9) || (is_in_range 32 126 c || is_in_range 128 255 c))
+    && (not (c == 34) && not (c == 92))

@@ -1,13 +1,11 @@
 -- The forms of numerals.
-use Rattle.std.specs.Prelude.{◌≡◌, ◌≢◌, ◌⊎◌, ℕ, ◌-◌, ◌*◌, ◌^◌, ◌≤◌, List, ◌∷◌, ◌++◌, length, slice_index}
+use Rattle.std.specs.Prelude.{◌≡◌, ◌≢◌, ◌⊎◌, ℕ, ◌^◌, ◌≤◌, List, ◌∷◌, length, slice_index}
 use Rattle.std.specs.Str.Parse.{digits_value, IsNumeral}
-use Rattle.hilti_addr.specs.Texts.{IsAddress, IsNet, IsNumber, IsPort}
+use Rattle.hilti_addr.specs.Texts.{IsAddress, IsNet, IsPort}
+use Rattle.hilti_base.specs.Numerals.{IsNumber, greatest}
+use Rattle.hilti_clock.specs.Numerals.{IsDecimal}
 use Rattle.hilti_lexer.specs.declared.token.TokenKind.{TokenKind}
 use Rattle.hilti_lexer.specs.declared.token.TokenKind.TheVariants.{Word, Number, Decimal, Address, Net, Port, Text, Bytes, Mark, LineEnd}
-
--- the greatest Number
-abbrev pub most : ℕ
-most = 2 ^ 64 - 1
 
 -- `0x` and 1 to 16 hexadecimal digits in either case
 pub record IsHex (text : List ℕ) (n : ℕ) : Type 0 where
@@ -17,19 +15,9 @@ pub record IsHex (text : List ℕ) (n : ℕ) : Type 0 where
   pub short : length digits ≤ 16
   pub value : n ≡ digits_value 16 digits
 
--- a Number of seconds, a point, and 1 to 9 digits of a second
-pub record IsDecimal (text : List ℕ) (seconds nanos : ℕ) : Type 0 where
-  pub front : List ℕ
-  pub fraction : List ℕ
-  pub parts : text ≡ front ++ 46 ∷ fraction
-  pub whole : IsNumber most front seconds
-  pub digits : IsNumeral 10 fraction
-  pub short : length fraction ≤ 9
-  pub value : nanos ≡ digits_value 10 fraction * 10 ^ (9 - length fraction)
-
 -- the text has the form of this kind of numeral, with this value
 abbrev pub IsNumeralOf : List ℕ → TokenKind → Type 0
-IsNumeralOf text (Number n) = IsNumber most text n ⊎ IsHex text n
+IsNumeralOf text (Number n) = IsNumber greatest text n ⊎ IsHex text n
 IsNumeralOf text (Decimal seconds nanos) = IsDecimal text seconds nanos
 IsNumeralOf text (Address address) = IsAddress text address
 IsNumeralOf text (Net address len) = IsNet text (record { addr = address; len = len })

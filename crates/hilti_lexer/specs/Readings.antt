@@ -43,16 +43,19 @@ place_behind place (Bytes _) bytes = further place bytes
 place_behind place (Mark _) bytes = further place bytes
 
 -- the next token of a text that begins at a place, and the place and the text behind it
-pub record IsNext (at : Place) (text : List ℕ) (token : Token) (behind : Place) (rest : List ℕ) : Type 0 where
+pub record IsNext (at : Place) (text : List ℕ) (token : Token) (behind : Place) (rest : List ℕ)
+    : Type 0 where
   pub place_is : token.place ≡ further at (distance text (behind_gap text))
   pub stands : Stands (behind_gap text) token.kind rest
   pub behind_is : behind ≡ place_behind token.place token.kind (distance (behind_gap text) rest)
 
--- these tokens stand at the front of a text that begins at a place, one after another, with a place and a text behind them
+-- these tokens stand at the front of a text that begins at a place, one after another, with a
+-- place and a text behind them
 abbrev pub AreRead : Place → List ℕ → List Token → Place → List ℕ → Type 0
 AreRead at text [] behind rest = (behind ≡ at) × (rest ≡ text)
 AreRead at text (token ∷ tokens) behind rest =
-    (after_token : Place) × (left : List ℕ) × IsNext at text token after_token left × AreRead after_token left tokens behind rest
+    (after_token : Place) × (left : List ℕ) × IsNext at text token after_token left
+    × AreRead after_token left tokens behind rest
 
 -- the next token is missing, for the fault of this code at this place
 pub record IsRefusedAt (at : Place) (text : List ℕ) (code : ℕ) (place : Place) : Type 0 where
@@ -77,7 +80,8 @@ pub record Refuses (file : ℕ) (text : List ℕ) (code : ℕ) (place : Place) :
   pub read : AreRead (start file) text tokens behind rest
   pub missing : IsRefusedAt behind rest code place
 
--- the lines and columns of a text that begins at a place are at most one more than the bytes of the longest text
+-- the lines and columns of a text that begins at a place are at most one more than the bytes of
+-- the longest text
 pub record HasRoom (at : Place) (text : List ℕ) : Type 0 where
   pub lines : at.line + length text ≤ 1048577
   pub columns : at.column + length text ≤ 1048577

@@ -8,19 +8,36 @@ use Rattle.hilti_lexer.specs.Characters.{is_plain}
 -- the byte that a letter behind a `\` stands for: `\n`, `\t`, `\\` and `\"`
 abbrev pub escaped : ℕ → Option ℕ
 escaped letter =
-    if letter == 110 then Some 10 else if letter == 116 then Some 9 else if letter == 92 then Some 92 else if letter == 34 then Some 34 else None
+    if letter == 110 then Some 10
+    else if letter == 116 then Some 9
+    else if letter == 92 then Some 92
+    else if letter == 34 then Some 34
+    else None
+
+-- two hexadecimal digits, and the byte that they write
+abbrev pub AreHex : ℕ → ℕ → Type 0
+AreHex high low = (digit_value high < 16) × (digit_value low < 16)
+
+abbrev pub byte_of : ℕ → ℕ → ℕ
+byte_of high low = 16 * digit_value high + digit_value low
 
 -- a byte of a string is spelled at the front of a text, with the rest behind it
 pub data Spells (text : List ℕ) (byte : ℕ) (rest : List ℕ) : Type 0 where
   itself : IsTrue (is_plain byte) → text ≡ byte ∷ rest → Spells text byte rest
-  by_letter : (letter : ℕ) → escaped letter ≡ Some byte → text ≡ 92 ∷ letter ∷ rest → Spells text byte rest
-  by_number : (high low : ℕ) → digit_value high < 16 → digit_value low < 16 → byte ≡ 16 * digit_value high + digit_value low
-      → text ≡ 92 ∷ 120 ∷ high ∷ low ∷ rest → Spells text byte rest
+  by_letter : (letter : ℕ) → escaped letter ≡ Some byte → text ≡ 92 ∷ letter ∷ rest
+      → Spells text byte rest
+  by_number : (high low : ℕ) → digit_value high < 16 → digit_value low < 16
+      → byte ≡ byte_of high low → text ≡ 92 ∷ 120 ∷ high ∷ low ∷ rest → Spells text byte rest
+
+-- no byte of a string is spelled at the front of a text
+abbrev pub NothingSpelled : List ℕ → Type 0
+NothingSpelled text = (byte : ℕ) (rest : List ℕ) → ¬ (Spells text byte rest)
 
 -- these bytes are spelled at the front of a text, one after another, with the rest behind them
 abbrev pub AreSpelled : List ℕ → List ℕ → List ℕ → Type 0
 AreSpelled [] text rest = text ≡ rest
-AreSpelled (byte ∷ value) text rest = (behind : List ℕ) × Spells text byte behind × AreSpelled value behind rest
+AreSpelled (byte ∷ value) text rest =
+    (behind : List ℕ) × Spells text byte behind × AreSpelled value behind rest
 
 -- these bytes are spelled up to a `"`, with the rest behind it
 abbrev pub IsClosed : List ℕ → List ℕ → List ℕ → Type 0
@@ -31,7 +48,8 @@ abbrev pub fault_at : List ℕ → LexicalFault
 fault_at [] = OpenString
 fault_at (c ∷ cs) = if c == 10 then OpenString else if c == 92 then BadEscape else BadByte
 
--- how far its place is behind the place of the opening `"`, where so many bytes were read behind that
+-- how far its place is behind the place of the opening `"`, where so many bytes were read behind
+-- that
 abbrev pub fault_offset : LexicalFault → ℕ → ℕ
 fault_offset OpenString read = 0
 fault_offset BadByte read = 1 + read
@@ -45,7 +63,7 @@ pub record FailsInside (inside : List ℕ) (fault : LexicalFault) (offset : ℕ)
   pub value : List ℕ
   pub rest : List ℕ
   pub spelled : AreSpelled value inside rest
-  pub stuck : (byte : ℕ) (behind : List ℕ) → ¬ (Spells rest byte behind)
+  pub stuck : NothingSpelled rest
   pub no_quote : slice_index rest 0 ≢ 34
   pub fault_is : fault ≡ fault_at rest
   pub offset_is : offset ≡ fault_offset fault (length inside - length rest)

@@ -29,7 +29,7 @@ pub fn front_begins(text: &[u8]) -> Beginning
     }
 }
 
-// What a byte begins, whatever follows it.
+/// What a byte begins, whatever follows it.
 fn of_byte(byte: u8) -> Beginning
     ensures { result ≡ byte_begins byte }
 {

@@ -1,6 +1,6 @@
 //! The token at the front of a text.
-ghost use Rattle.std.specs.Prelude.{◌≡◌, ℕ, ◌<◌, ◌≤◌, ◌∷◌, List, length, IfOk, Err};
-ghost use Rattle.hilti_lexer.specs.declared.fault.LexicalFault.{LexicalFault};
+ghost use Rattle.std.specs.Prelude.{◌≡◌, ℕ, ◌<◌, ◌≤◌, ◌∷◌, List, length, IfOk};
+ghost use Rattle.hilti_lexer.specs.Faults.{IfMissing};
 ghost use Rattle.hilti_lexer.specs.Tokens.{Fails, IsBytes, IsFaultyBytes, IsFaultyText, IsLongWord, IsNoNumeral, IsNumeralToken, IsText, IsWord, Stands};
 
 use crate::beginning::{Beginning, front_begins};
@@ -29,7 +29,7 @@ pub fn read_front(alloc: Global, text: &[u8]) -> Result<Front<'_>, Missing>
     requires some { 0 < length text.now }
     requires short { length text.now ≤ 1048577 }
     ensures stands { IfOk result (λ front. Stands text.now front.kind front.rest.now) }
-    ensures fails { (fault : LexicalFault) (offset : ℕ) → result ≡ Err (Missing.At fault offset) → Fails text.now fault offset }
+    ensures fails { IfMissing result (Fails text.now) }
 {
     match front_begins(text) {
         Beginning::LineEnd => Ok(Front {
@@ -55,10 +55,10 @@ pub fn read_front(alloc: Global, text: &[u8]) -> Result<Front<'_>, Missing>
     }
 }
 
-// The word at the front.
+/// The word at the front.
 fn read_word(alloc: Global, text: &[u8]) -> Result<Front<'_>, Missing>
     ensures stands { IfOk result (λ front. IsWord text.now front.kind front.rest.now) }
-    ensures fails { (fault : LexicalFault) (offset : ℕ) → result ≡ Err (Missing.At fault offset) → IsLongWord text.now fault offset }
+    ensures fails { IfMissing result (IsLongWord text.now) }
 {
     let (word, rest) = split_word(text);
     if word.len() > MOST_WORD_BYTES {
@@ -74,10 +74,10 @@ fn read_word(alloc: Global, text: &[u8]) -> Result<Front<'_>, Missing>
     })
 }
 
-// The numeral at the front.
+/// The numeral at the front.
 fn read_number_token(text: &[u8]) -> Result<Front<'_>, Missing>
     ensures stands { IfOk result (λ front. IsNumeralToken text.now front.kind front.rest.now) }
-    ensures fails { (fault : LexicalFault) (offset : ℕ) → result ≡ Err (Missing.At fault offset) → IsNoNumeral text.now fault offset }
+    ensures fails { IfMissing result (IsNoNumeral text.now) }
 {
     let (numeral, rest) = split_numeral(text);
     if let Some(kind) = read_numeral(numeral) {
@@ -91,11 +91,11 @@ fn read_number_token(text: &[u8]) -> Result<Front<'_>, Missing>
     Err(Missing::At { fault, offset: 0 })
 }
 
-// The string at the front, which begins with its `"`.
+/// The string at the front, which begins with its `"`.
 fn read_text(alloc: Global, text: &[u8]) -> Result<Front<'_>, Missing>
     requires { (inside : List ℕ) × (text.now ≡ 34 ∷ inside) }
     ensures stands { IfOk result (λ front. IsText text.now front.kind front.rest.now) }
-    ensures fails { (fault : LexicalFault) (offset : ℕ) → result ≡ Err (Missing.At fault offset) → IsFaultyText text.now fault offset }
+    ensures fails { IfMissing result (IsFaultyText text.now) }
 {
     let spelled = read_closed(alloc, &text[1..])?;
     Ok(Front {
@@ -104,12 +104,12 @@ fn read_text(alloc: Global, text: &[u8]) -> Result<Front<'_>, Missing>
     })
 }
 
-// The bytes literal at the front, which begins with its `b"`.
+/// The bytes literal at the front, which begins with its `b"`.
 fn read_bytes(alloc: Global, text: &[u8]) -> Result<Front<'_>, Missing>
     requires opened { (inside : List ℕ) × (text.now ≡ 98 ∷ 34 ∷ inside) }
     requires short { length text.now ≤ 1048577 }
     ensures stands { IfOk result (λ front. IsBytes text.now front.kind front.rest.now) }
-    ensures fails { (fault : LexicalFault) (offset : ℕ) → result ≡ Err (Missing.At fault offset) → IsFaultyBytes text.now fault offset }
+    ensures fails { IfMissing result (IsFaultyBytes text.now) }
 {
     match read_closed(alloc, &text[2..]) {
         Ok(spelled) => Ok(Front {

@@ -1,6 +1,6 @@
 //! The tokens of a whole text.
-ghost use Rattle.std.specs.Prelude.{◌≡◌, ℕ, ◌+◌, ◌<◌, ◌≤◌, ◌^◌, [], length, IfOk, IfSome, IsNone, Err};
-ghost use Rattle.hilti_base.specs.declared.names.Place.{Place};
+ghost use Rattle.std.specs.Prelude.{◌≡◌, ℕ, ◌+◌, ◌<◌, ◌≤◌, ◌^◌, [], length, IfOk, IfSome, IsNone};
+ghost use Rattle.hilti_lexer.specs.Faults.{IfRefused};
 ghost use Rattle.hilti_lexer.specs.Readings.{HasRoom, IsNext, IsRefusedAt, Lexes, Refuses};
 ghost use Rattle.hilti_lexer.specs.Readings as readings;
 
@@ -11,7 +11,7 @@ use crate::token::{Token, TokenKind, Tokens};
 use hilti_base::{Place, Refusal};
 use std::alloc::Global;
 
-// A token, and the place and the text behind it.
+/// A token, and the place and the text behind it.
 #[derive(Drop)]
 struct Next<'a> {
     token: Token,
@@ -24,7 +24,7 @@ struct Next<'a> {
 pub fn lex(alloc: Global, file: u32, text: &[u8]) -> Result<Tokens, Refusal>
     requires { length text.now ≤ 1048576 }
     ensures tokens { IfOk result (λ tokens. Lexes file text.now tokens) }
-    ensures refusal { (place : Place) (code : ℕ) → result ≡ Err (Refusal.At place code) → Refuses file text.now code place }
+    ensures refusal { IfRefused result (Refuses file text.now) }
 {
     let mut tokens = Tokens::new(alloc);
     let mut at = Place {
@@ -41,14 +41,16 @@ pub fn lex(alloc: Global, file: u32, text: &[u8]) -> Result<Tokens, Refusal>
     Ok(tokens)
 }
 
-// The next token of a text that begins at a place; `None` where only blanks and a comment are left.
+/// The next token of a text that begins at a place; `None` where only blanks and a comment are left.
 fn read_next(alloc: Global, at: Place, text: &[u8]) -> Result<Option<Next<'_>>, Refusal>
     requires { HasRoom at text.now }
     ensures none { IfOk result (λ found. IsNone found → readings.behind_gap text.now ≡ []) }
-    ensures next { IfOk result (λ found. IfSome found (λ next. IsNext at text.now next.token next.behind next.rest.now)) }
+    ensures next { IfOk result (λ found. IfSome found (λ next.
+        IsNext at text.now next.token next.behind next.rest.now)) }
     ensures room { IfOk result (λ found. IfSome found (λ next. HasRoom next.behind next.rest.now)) }
-    ensures shorter { IfOk result (λ found. IfSome found (λ next. length next.rest.now < length text.now)) }
-    ensures missing { (place : Place) (code : ℕ) → result ≡ Err (Refusal.At place code) → IsRefusedAt at text.now code place }
+    ensures shorter { IfOk result (λ found. IfSome found (λ next.
+        length next.rest.now < length text.now)) }
+    ensures missing { IfRefused result (IsRefusedAt at text.now) }
 {
     let front = behind_gap(text);
     if front.is_empty() {
@@ -73,7 +75,7 @@ fn read_next(alloc: Global, at: Place, text: &[u8]) -> Result<Option<Next<'_>>, 
     }
 }
 
-// The place of so many bytes further on the same line.
+/// The place of so many bytes further on the same line.
 fn further(place: Place, bytes: usize) -> Place
     requires { place.column + bytes < 2 ^ 32 }
     ensures { result ≡ readings.further place bytes }
@@ -84,7 +86,7 @@ fn further(place: Place, bytes: usize) -> Place
     }
 }
 
-// The place behind a token of so many bytes.
+/// The place behind a token of so many bytes.
 fn place_behind(place: Place, kind: &TokenKind, bytes: usize) -> Place
     requires line { place.line + 1 < 2 ^ 32 }
     requires column { place.column + bytes < 2 ^ 32 }

@@ -14,7 +14,7 @@ pub fn behind_gap(text: &[u8]) -> &[u8]
     behind_comment(behind_blanks(text))
 }
 
-// What stands behind the blanks at the front.
+/// What stands behind the blanks at the front.
 fn behind_blanks(text: &[u8]) -> &[u8]
     ensures { result.now ≡ behind_run characters.is_blank text.now }
 {
@@ -22,7 +22,7 @@ fn behind_blanks(text: &[u8]) -> &[u8]
     &text[blanks..]
 }
 
-// How many blanks stand at the front.
+/// How many blanks stand at the front.
 fn count_blanks(text: &[u8]) -> usize
     ensures length { result ≡ prefix_len characters.is_blank text.now }
     ensures within { result ≤ length text.now }
@@ -35,7 +35,7 @@ fn count_blanks(text: &[u8]) -> usize
     text.len()
 }
 
-// What stands behind the comment at the front, if one stands there.
+/// What stands behind the comment at the front, if one stands there.
 fn behind_comment(text: &[u8]) -> &[u8]
     ensures { result.now ≡ readings.behind_comment text.now }
 {
@@ -46,7 +46,7 @@ fn behind_comment(text: &[u8]) -> &[u8]
     &text[comment..]
 }
 
-// How many bytes stand before the line's end.
+/// How many bytes stand before the line's end.
 fn count_line_bytes(text: &[u8]) -> usize
     ensures length { result ≡ prefix_len characters.is_within_line text.now }
     ensures within { result ≤ length text.now }
@@ -68,7 +68,7 @@ pub fn split_word(text: &[u8]) -> (&[u8], &[u8])
     text.split_at(bytes)
 }
 
-// How many letters, digits and `_` stand at the front.
+/// How many letters, digits and `_` stand at the front.
 fn count_word_bytes(text: &[u8]) -> usize
     ensures length { result ≡ prefix_len characters.is_word_byte text.now }
     ensures within { result ≤ length text.now }
@@ -90,7 +90,7 @@ pub fn split_numeral(text: &[u8]) -> (&[u8], &[u8])
     text.split_at(bytes)
 }
 
-// How many letters, digits, `.` and `/` stand at the front.
+/// How many letters, digits, `.` and `/` stand at the front.
 fn count_numeral_bytes(text: &[u8]) -> usize
     ensures length { result ≡ prefix_len characters.is_numeral_byte text.now }
     ensures within { result ≤ length text.now }

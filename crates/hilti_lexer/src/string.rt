@@ -1,8 +1,7 @@
 //! What stands between the quotes of strings and bytes literals.
-ghost use Rattle.std.specs.Prelude.{◌≡◌, ℕ, ◌+◌, ◌*◌, ◌<◌, ◌∷◌, List, length, IfSome, IsNone, IfOk, Err, SomeIff};
-ghost use Rattle.std.specs.Char.{digit_value};
-ghost use Rattle.hilti_lexer.specs.declared.fault.LexicalFault.{LexicalFault};
-ghost use Rattle.hilti_lexer.specs.Strings.{AreSpelled, FailsInside, IsClosed, Spells};
+ghost use Rattle.std.specs.Prelude.{◌≡◌, ℕ, ◌<◌, ◌∷◌, List, length, IfSome, IsNone, IfOk, SomeIff};
+ghost use Rattle.hilti_lexer.specs.Faults.{IfMissing};
+ghost use Rattle.hilti_lexer.specs.Strings.{AreHex, AreSpelled, FailsInside, IsClosed, NothingSpelled, Spells, byte_of};
 ghost use Rattle.hilti_lexer.specs.Strings as strings;
 
 use crate::characters::is_plain;
@@ -21,7 +20,7 @@ pub struct Spelled<'a> {
 /// The bytes between the opening `"` of a string and its closing one, and what stands behind that.
 pub fn read_closed(alloc: Global, inside: &[u8]) -> Result<Spelled<'_>, Missing>
     ensures closed { IfOk result (λ spelled. IsClosed inside.now spelled.value spelled.rest.now) }
-    ensures fails { (fault : LexicalFault) (offset : ℕ) → result ≡ Err (Missing.At fault offset) → FailsInside inside.now fault offset }
+    ensures fails { IfMissing result (FailsInside inside.now) }
 {
     let spelled = read_spelled(alloc, inside)?;
     let offset = 1 + (inside.len() - spelled.rest.len());
@@ -45,10 +44,10 @@ pub fn read_closed(alloc: Global, inside: &[u8]) -> Result<Spelled<'_>, Missing>
     }
 }
 
-// The bytes that are spelled at the front of a text, as many as there are.
+/// The bytes that are spelled at the front of a text, as many as there are.
 fn read_spelled(alloc: Global, inside: &[u8]) -> Result<Spelled<'_>, NoMemory>
-    ensures spelled { IfOk result (λ spelled. AreSpelled spelled.value inside.now spelled.rest.now) }
-    ensures all { IfOk result (λ spelled. (byte : ℕ) (behind : List ℕ) → ¬ (Spells spelled.rest.now byte behind)) }
+    ensures spelled { IfOk result (λ found. AreSpelled found.value inside.now found.rest.now) }
+    ensures all { IfOk result (λ found. NothingSpelled found.rest.now) }
 {
     let mut value = Blob::new(alloc);
     let mut rest = inside;
@@ -59,11 +58,11 @@ fn read_spelled(alloc: Global, inside: &[u8]) -> Result<Spelled<'_>, NoMemory>
     Ok(Spelled { value, rest })
 }
 
-// The byte that is spelled at the front of a text, and what stands behind it.
+/// The byte that is spelled at the front of a text, and what stands behind it.
 fn read_byte(text: &[u8]) -> Option<(u8, &[u8])>
     ensures some { IfSome result (λ found. Spells text.now found.0 found.1.now) }
     ensures shorter { IfSome result (λ found. length found.1.now < length text.now) }
-    ensures none { IsNone result → (byte : ℕ) (rest : List ℕ) → ¬ (Spells text.now byte rest) }
+    ensures none { IsNone result → NothingSpelled text.now }
 {
     let (first, behind) = text.split_first()?;
     if *first == b'\\' {
@@ -76,11 +75,11 @@ fn read_byte(text: &[u8]) -> Option<(u8, &[u8])>
     }
 }
 
-// The byte of the escape whose `\` is read, and what stands behind it.
+/// The byte of the escape whose `\` is read, and what stands behind it.
 fn read_escape(text: &[u8]) -> Option<(u8, &[u8])>
     ensures some { IfSome result (λ found. Spells (92 ∷ text.now) found.0 found.1.now) }
     ensures shorter { IfSome result (λ found. length found.1.now < length text.now) }
-    ensures none { IsNone result → (byte : ℕ) (rest : List ℕ) → ¬ (Spells (92 ∷ text.now) byte rest) }
+    ensures none { IsNone result → NothingSpelled (92 ∷ text.now) }
 {
     let (letter, behind) = text.split_first()?;
     if *letter != b'x' {
@@ -93,7 +92,7 @@ fn read_escape(text: &[u8]) -> Option<(u8, &[u8])>
     Some((byte, behind))
 }
 
-// The byte that a letter behind a `\` stands for.
+/// The byte that a letter behind a `\` stands for.
 fn escaped(letter: u8) -> Option<u8>
     ensures { result ≡ strings.escaped letter }
 {
@@ -106,9 +105,9 @@ fn escaped(letter: u8) -> Option<u8>
     }
 }
 
-// The byte of two hexadecimal digits.
+/// The byte of two hexadecimal digits.
 fn read_pair(high: u8, low: u8) -> Option<u8>
-    ensures { SomeIff result ((digit_value high < 16) × (digit_value low < 16)) (16 * digit_value high + digit_value low) }
+    ensures { SomeIff result (AreHex high low) (byte_of high low) }
 {
     let high = char::from(high).to_digit(16)?;
     let low = char::from(low).to_digit(16)?;

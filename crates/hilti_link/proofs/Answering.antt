@@ -3,6 +3,7 @@ use Rattle.std.proofs.Common.{◌≡◌, refl, sym, ◌∙◌, ap, subst, ℕ, �
 use Rattle.std.specs.Prelude.{bytes_eq, is_some}
 use Rattle.std.specs.Result.{IsErr, IsErrAnd}
 use Rattle.std.specs.Option.{option_or}
+use Rattle.std.proofs.lemmas.Result.{err_from_is_err_and}
 use Rattle.std.proofs.lemmas.List.Folds.{list_any-append}
 use Rattle.hilti_base.specs.declared.names.Place.{Place}
 use Rattle.hilti_base.specs.declared.refusal.Refusal.{Refusal}
@@ -13,13 +14,31 @@ use Rattle.hilti_link.specs.InTurn.{Answers, first_in_turn}
 use Rattle.hilti_link.specs.Views.{Holds}
 use Rattle.hilti_link.proofs.Turns.{Going, loop_stops, loop_end, going_end}
 
+abbrev pub err : (A : Type 0) → Refusal → Result A Refusal
+err A e = Err e
+
 -- an error stands for a refusal
 abbrev pub Refused : Refusal → Option Refusal → Type 0
 Refused e refusal = Answers {A = Unit {0}} (Err e) refusal
 
+pub refused_as : (e : Refusal) (a b : Option Refusal) → a ≡ b → Refused e a → Refused e b
+refused_as (At place code) a b same refused = sym same ∙ refused
+refused_as NoMemory a b same refused = tt
+
 pub refused_same : (e : Refusal) (a b : Option Refusal) → b ≡ a → Refused e a → Refused e b
-refused_same (At place code) a b same refused = same ∙ refused
-refused_same NoMemory a b same refused = tt
+refused_same e a b same = refused_as e a b (sym same)
+
+-- whatever would be the value
+pub refuses : (A : Type 0) (e : Refusal) (refusal : Option Refusal) → Answers {A = A} (Err e) refusal → Refused e refusal
+refuses A (At place code) refusal is = is
+refuses A NoMemory refusal is = tt
+
+answers_by : (A : Type 0) (e : Refusal) (refusal : Option Refusal) → Refused e refusal → Answers {A = A} (Err e) refusal
+answers_by A (At place code) refusal is = is
+answers_by A NoMemory refusal is = tt
+
+pub answers_as : {A : Type 0} (result : Result A Refusal) (a b : Option Refusal) → a ≡ b → Answers result a → Answers result b
+answers_as result a b same is = subst (λ (refusal : Option Refusal). Answers result refusal) same is
 
 refused_given : (other e : Refusal) (refusal : Option Refusal) → other ≡ e → Refused e refusal → Refused other refusal
 refused_given other e refusal same refused = subst (λ e. Refused e refusal) (sym same) refused
@@ -33,6 +52,9 @@ answers_or NoMemory first rest refused = tt
 pub answers_behind : (e : Refusal) (first rest : Option Refusal) → first ≡ None → Refused e rest → Refused e (option_or first rest)
 answers_behind (At place code) first rest none refused = ap (λ first. option_or first rest) none ∙ refused
 answers_behind NoMemory first rest none refused = tt
+
+pub behind_none : (first rest : Option Refusal) → first ≡ None → option_or first rest ≡ rest
+behind_none first rest none = ap (λ (first : Option Refusal). option_or first rest) none
 
 -- neither is refused
 pub answers_neither : (first rest : Option Refusal) → first ≡ None → rest ≡ None → option_or first rest ≡ None
@@ -49,6 +71,22 @@ pub answers_given : {A : Type 0} (result : Result A Refusal) (e : Refusal) (refu
     → IsErr result → IsErrAnd result (λ given. given ≡ e) → Refused e refusal → Answers result refusal
 answers_given (Ok value) e refusal is given refused = absurd given
 answers_given (Err other) e refusal is given refused = refused_given other e refusal given refused
+
+-- what is handed on is the same refusal
+pub handed_on : {A : Type 0} (result : Result A Refusal) (e : Refusal) (refusal : Option Refusal) → IsErrAnd result (λ (y : Refusal). y ≡ e)
+    → Refused e refusal → Answers result refusal
+handed_on {A} result e refusal is told =
+    let handed = err_from_is_err_and result is in
+    subst (λ (result : Result A Refusal). Answers result refusal) (sym (handed.1 ∙ ap (λ (y : Refusal). err A y) handed.2)) (answers_by A e refusal told)
+
+stopped : (error : Refusal) (told all : Option Refusal) → Refused error told → ((refusal : Refusal) → told ≡ Some refusal → all ≡ Some refusal) → Refused error all
+stopped (At place code) told all is stops = stops (At place code) is
+stopped NoMemory told all is stops = tt
+
+-- what refuses one refuses all
+pub answers_stop : {A : Type 0} (result : Result A Refusal) (error : Refusal) (told all : Option Refusal) → IsErr result → IsErrAnd result (λ given. given ≡ error)
+    → Refused error told → ((refusal : Refusal) → told ≡ Some refusal → all ≡ Some refusal) → Answers result all
+answers_stop result error told all failed given is stops = answers_given result error all failed given (stopped error told all is stops)
 
 module _ {S X : Type 0} (judge : S → X → Option Refusal) (behind : S → X → S) where
   -- in a loop, the next one is refused

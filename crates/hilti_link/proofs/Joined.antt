@@ -3,7 +3,7 @@ use Rattle.std.proofs.Common.{◌≡◌, subst, ℕ, List, Option, Some, None, R
 use Rattle.hilti_base.specs.declared.names.Place.{Place}
 use Rattle.hilti_base.specs.declared.refusal.Refusal.{Refusal}
 use Rattle.hilti_base.specs.declared.refusal.Refusal.TheVariants.{At}
-use Rattle.hilti_syntax.specs.declared.module.Module.{Module}
+use Rattle.hilti_module.specs.declared.module.Module.{Module}
 use Rattle.hilti_link.specs.Entries.{entries_refusal}
 use Rattle.hilti_link.specs.InTurn.{Answers}
 use Rattle.hilti_link.specs.Linking.{modules_refusal}

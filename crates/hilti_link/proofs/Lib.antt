@@ -1,6 +1,5 @@
 pub mod Agreeing
 pub mod Announced
-pub mod AnsweringHooks
 pub mod Mains
 pub mod SameWritten
 pub mod Turns
@@ -12,3 +11,5 @@ pub mod Taking
 pub mod Joined
 pub mod AnsweringItems
 pub mod Slots
+pub mod Once
+pub mod Firsts

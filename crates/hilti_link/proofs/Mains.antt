@@ -6,9 +6,9 @@ use Rattle.std.proofs.lemmas.List.Folds.{find_at}
 use Rattle.std.proofs.lemmas.Option.{slice_get_past}
 use Rattle.hilti_base.specs.declared.refusal.Refusal.{Refusal}
 use Rattle.hilti_base.specs.declared.refusal.Refusal.TheVariants.{At, NoMemory}
-use Rattle.hilti_syntax.specs.declared.module.Module.{Module}
+use Rattle.hilti_module.specs.declared.module.Module.{Module}
 use Rattle.hilti_link.specs.Entries.{main_of, entries_of, entries_refusal, no_packet}
-use Rattle.hilti_link.proofs.AnsweringHooks.{Refused}
+use Rattle.hilti_link.proofs.Answering.{Refused}
 
 -- the first that passes is the one at the first place that passes
 found_there : (test : Module → Bool) (modules : List Module) → find test modules ≡ main_of modules (position test modules)

@@ -1,14 +1,14 @@
 -- Whether what two written types say is the same: the test passes exactly where they are equal.
 use Rattle.std.proofs.Common.{◌≡◌, refl, sym, ◌∙◌, ap, ap₂, Bool, true, false, ◌&&◌, ◌↔◌, IsTrue, eqb-true, eq-eqb}
 use Rattle.std.proofs.lemmas.Bool.{false_from_ne_true}
-use Rattle.hilti_syntax.specs.declared.types.PlainType.{PlainType}
-use Rattle.hilti_syntax.specs.declared.types.PlainType.TheVariants as plain
-use Rattle.hilti_syntax.specs.declared.types.PlainInner.{PlainInner}
-use Rattle.hilti_syntax.specs.declared.types.PlainInner.TheVariants as words
-use Rattle.hilti_syntax.specs.declared.types.Single.{Single}
-use Rattle.hilti_syntax.specs.declared.types.Single.TheVariants as singles
-use Rattle.hilti_syntax.specs.declared.types.Double.{Double}
-use Rattle.hilti_syntax.specs.declared.types.Double.TheVariants as doubles
+use Rattle.hilti_module.specs.declared.types.PlainType.{PlainType}
+use Rattle.hilti_module.specs.declared.types.PlainType.TheVariants as plain
+use Rattle.hilti_module.specs.declared.types.PlainInner.{PlainInner}
+use Rattle.hilti_module.specs.declared.types.PlainInner.TheVariants as words
+use Rattle.hilti_module.specs.declared.types.Single.{Single}
+use Rattle.hilti_module.specs.declared.types.Single.TheVariants as singles
+use Rattle.hilti_module.specs.declared.types.Double.{Double}
+use Rattle.hilti_module.specs.declared.types.Double.TheVariants as doubles
 use Rattle.hilti_scope.specs.declared.meaning.Meaning.{Meaning}
 use Rattle.hilti_scope.specs.declared.meaning.Meaning.TheVariants as means
 use Rattle.hilti_resolve.specs.Written.{Written, Plain, Int, Tuple, NoPart, Part, Iterator, Ref, InnerWord, One, Two, Named}
@@ -159,7 +159,7 @@ double_same doubles.Classifier doubles.Classifier same = refl
 
 meaning_itself : (a : Meaning) → meaning_eq a a ≡ true
 meaning_itself means.Nothing = refl
-meaning_itself means.Local = refl
+meaning_itself (means.Local n) = eq-eqb n n refl
 meaning_itself (means.Struct n) = eq-eqb n n refl
 meaning_itself (means.Enum n) = eq-eqb n n refl
 meaning_itself (means.Overlay n) = eq-eqb n n refl
@@ -170,7 +170,7 @@ meaning_itself (means.Hook n) = eq-eqb n n refl
 
 meaning_same : (a b : Meaning) → meaning_eq a b ≡ true → a ≡ b
 meaning_same means.Nothing means.Nothing same = refl
-meaning_same means.Nothing means.Local same = cc
+meaning_same means.Nothing (means.Local m) same = cc
 meaning_same means.Nothing (means.Struct m) same = cc
 meaning_same means.Nothing (means.Enum m) same = cc
 meaning_same means.Nothing (means.Overlay m) same = cc
@@ -178,17 +178,17 @@ meaning_same means.Nothing (means.Exception m) same = cc
 meaning_same means.Nothing (means.Global m) same = cc
 meaning_same means.Nothing (means.Function m) same = cc
 meaning_same means.Nothing (means.Hook m) same = cc
-meaning_same means.Local means.Nothing same = cc
-meaning_same means.Local means.Local same = refl
-meaning_same means.Local (means.Struct m) same = cc
-meaning_same means.Local (means.Enum m) same = cc
-meaning_same means.Local (means.Overlay m) same = cc
-meaning_same means.Local (means.Exception m) same = cc
-meaning_same means.Local (means.Global m) same = cc
-meaning_same means.Local (means.Function m) same = cc
-meaning_same means.Local (means.Hook m) same = cc
+meaning_same (means.Local n) means.Nothing same = cc
+meaning_same (means.Local n) (means.Local m) same = ap means.Local (eqb-true n m same)
+meaning_same (means.Local n) (means.Struct m) same = cc
+meaning_same (means.Local n) (means.Enum m) same = cc
+meaning_same (means.Local n) (means.Overlay m) same = cc
+meaning_same (means.Local n) (means.Exception m) same = cc
+meaning_same (means.Local n) (means.Global m) same = cc
+meaning_same (means.Local n) (means.Function m) same = cc
+meaning_same (means.Local n) (means.Hook m) same = cc
 meaning_same (means.Struct n) means.Nothing same = cc
-meaning_same (means.Struct n) means.Local same = cc
+meaning_same (means.Struct n) (means.Local m) same = cc
 meaning_same (means.Struct n) (means.Struct m) same = ap means.Struct (eqb-true n m same)
 meaning_same (means.Struct n) (means.Enum m) same = cc
 meaning_same (means.Struct n) (means.Overlay m) same = cc
@@ -197,7 +197,7 @@ meaning_same (means.Struct n) (means.Global m) same = cc
 meaning_same (means.Struct n) (means.Function m) same = cc
 meaning_same (means.Struct n) (means.Hook m) same = cc
 meaning_same (means.Enum n) means.Nothing same = cc
-meaning_same (means.Enum n) means.Local same = cc
+meaning_same (means.Enum n) (means.Local m) same = cc
 meaning_same (means.Enum n) (means.Struct m) same = cc
 meaning_same (means.Enum n) (means.Enum m) same = ap means.Enum (eqb-true n m same)
 meaning_same (means.Enum n) (means.Overlay m) same = cc
@@ -206,7 +206,7 @@ meaning_same (means.Enum n) (means.Global m) same = cc
 meaning_same (means.Enum n) (means.Function m) same = cc
 meaning_same (means.Enum n) (means.Hook m) same = cc
 meaning_same (means.Overlay n) means.Nothing same = cc
-meaning_same (means.Overlay n) means.Local same = cc
+meaning_same (means.Overlay n) (means.Local m) same = cc
 meaning_same (means.Overlay n) (means.Struct m) same = cc
 meaning_same (means.Overlay n) (means.Enum m) same = cc
 meaning_same (means.Overlay n) (means.Overlay m) same = ap means.Overlay (eqb-true n m same)
@@ -215,7 +215,7 @@ meaning_same (means.Overlay n) (means.Global m) same = cc
 meaning_same (means.Overlay n) (means.Function m) same = cc
 meaning_same (means.Overlay n) (means.Hook m) same = cc
 meaning_same (means.Exception n) means.Nothing same = cc
-meaning_same (means.Exception n) means.Local same = cc
+meaning_same (means.Exception n) (means.Local m) same = cc
 meaning_same (means.Exception n) (means.Struct m) same = cc
 meaning_same (means.Exception n) (means.Enum m) same = cc
 meaning_same (means.Exception n) (means.Overlay m) same = cc
@@ -224,7 +224,7 @@ meaning_same (means.Exception n) (means.Global m) same = cc
 meaning_same (means.Exception n) (means.Function m) same = cc
 meaning_same (means.Exception n) (means.Hook m) same = cc
 meaning_same (means.Global n) means.Nothing same = cc
-meaning_same (means.Global n) means.Local same = cc
+meaning_same (means.Global n) (means.Local m) same = cc
 meaning_same (means.Global n) (means.Struct m) same = cc
 meaning_same (means.Global n) (means.Enum m) same = cc
 meaning_same (means.Global n) (means.Overlay m) same = cc
@@ -233,7 +233,7 @@ meaning_same (means.Global n) (means.Global m) same = ap means.Global (eqb-true 
 meaning_same (means.Global n) (means.Function m) same = cc
 meaning_same (means.Global n) (means.Hook m) same = cc
 meaning_same (means.Function n) means.Nothing same = cc
-meaning_same (means.Function n) means.Local same = cc
+meaning_same (means.Function n) (means.Local m) same = cc
 meaning_same (means.Function n) (means.Struct m) same = cc
 meaning_same (means.Function n) (means.Enum m) same = cc
 meaning_same (means.Function n) (means.Overlay m) same = cc
@@ -242,7 +242,7 @@ meaning_same (means.Function n) (means.Global m) same = cc
 meaning_same (means.Function n) (means.Function m) same = ap means.Function (eqb-true n m same)
 meaning_same (means.Function n) (means.Hook m) same = cc
 meaning_same (means.Hook n) means.Nothing same = cc
-meaning_same (means.Hook n) means.Local same = cc
+meaning_same (means.Hook n) (means.Local m) same = cc
 meaning_same (means.Hook n) (means.Struct m) same = cc
 meaning_same (means.Hook n) (means.Enum m) same = cc
 meaning_same (means.Hook n) (means.Overlay m) same = cc

@@ -1,20 +1,22 @@
 -- The entries of `Main`: `packet`, and where they are there `done` and `init`.
-use Rattle.std.specs.Prelude.{ℕ, List, [], ◌∷◌, Bool, true, false, cond, codes, bytes_eq, ◌&&◌, map, Option, Some, None}
+use Rattle.std.specs.Prelude.{ℕ, List, [], ◌∷◌, Bool, true, false, cond, codes, bytes_eq, ◌&&◌, map}
+use Rattle.std.specs.Prelude.{Option, Some, None}
 use Rattle.std.specs.List.{list_any, slice_get}
 use Rattle.hilti_base.specs.declared.refusal.Refusal.{Refusal}
 use Rattle.hilti_base.specs.declared.refusal.Refusal.TheVariants.{At}
-use Rattle.hilti_syntax.specs.declared.types.Word.{Word}
-use Rattle.hilti_syntax.specs.declared.types.TypeText.{TypeText, out-TypeText}
-use Rattle.hilti_syntax.specs.declared.types.Parametric.{Parametric, out-Parametric}
-use Rattle.hilti_syntax.specs.declared.types.InnerText.{InnerText, out-InnerText}
-use Rattle.hilti_syntax.specs.declared.types.Container.{Container}
-use Rattle.hilti_syntax.specs.declared.types.Container.TheOpen.{InnerText-F, Parametric-F, TypeText-F}
-use Rattle.hilti_syntax.specs.declared.types.PlainType.TheVariants as plain
-use Rattle.hilti_syntax.specs.declared.types.PlainInner.TheVariants as words
-use Rattle.hilti_syntax.specs.declared.module.Item.{Item}
-use Rattle.hilti_syntax.specs.declared.module.Item.TheVariants as items
-use Rattle.hilti_syntax.specs.declared.module.Module.{Module}
-use Rattle.hilti_syntax.specs.declared.module.Parameter.{Parameter}
+use Rattle.hilti_module.specs.declared.types.Word.{Word}
+use Rattle.hilti_module.specs.declared.types.TypeText.{TypeText, out-TypeText}
+use Rattle.hilti_module.specs.declared.types.Parametric.{Parametric, out-Parametric}
+use Rattle.hilti_module.specs.declared.types.InnerText.{InnerText, out-InnerText}
+use Rattle.hilti_module.specs.declared.types.Container.{Container}
+use Rattle.hilti_module.specs.declared.types.Container.TheOpen.{InnerText-F, Parametric-F}
+use Rattle.hilti_module.specs.declared.types.Container.TheOpen.{TypeText-F}
+use Rattle.hilti_module.specs.declared.types.PlainType.TheVariants as plain
+use Rattle.hilti_module.specs.declared.types.PlainInner.TheVariants as words
+use Rattle.hilti_module.specs.declared.module.Item.{Item}
+use Rattle.hilti_module.specs.declared.module.Item.TheVariants as items
+use Rattle.hilti_module.specs.declared.module.Module.{Module}
+use Rattle.hilti_module.specs.declared.module.Parameter.{Parameter}
 use Rattle.hilti_scope.specs.Items.{module_named, declared_word}
 use Rattle.hilti_resolve.specs.Names.{first_of}
 
@@ -56,10 +58,13 @@ unless good word = cond good None (Some (At word.place 23))
 
 -- what is asked of what `Main` declares as `packet`, and as `done` or `init`
 abbrev pub asked : List ℕ → List Parameter → Bool
-asked name parameters = cond (bytes_eq name (codes "packet")) (are_packet parameters) (is_empty parameters)
+asked name parameters =
+    cond (bytes_eq name (codes "packet")) (are_packet parameters) (is_empty parameters)
 
 abbrev pub is_entry : List ℕ → Bool
-is_entry name = cond (bytes_eq name (codes "packet")) true (cond (bytes_eq name (codes "done")) true (bytes_eq name (codes "init")))
+is_entry name =
+    cond (bytes_eq name (codes "packet")) true
+    (cond (bytes_eq name (codes "done")) true (bytes_eq name (codes "init")))
 
 abbrev pub as_asked : Item → Word → Bool
 as_asked (items.Function None name parameters body) word = asked word.bytes parameters
@@ -83,7 +88,8 @@ no_packet = Some (At (record { file = 0; line = 1; column = 1 }) 22)
 
 abbrev pub entries_of : Option Module → Option Refusal
 entries_of None = no_packet
-entries_of (Some m) = cond (list_any declares_packet m.items) (first_of (map entry_refusal m.items)) no_packet
+entries_of (Some m) =
+    cond (list_any declares_packet m.items) (first_of (map entry_refusal m.items)) no_packet
 
 abbrev pub main_of : List Module → Option ℕ → Option Module
 main_of modules None = None

@@ -2,17 +2,17 @@
 use Rattle.std.specs.Prelude.{ℕ, List, [], ◌∷◌, ◌++◌, length, map, ◌||◌, not, Option, Some, None}
 use Rattle.std.specs.Option.{option_map, option_or}
 use Rattle.hilti_base.specs.declared.refusal.Refusal.{Refusal}
-use Rattle.hilti_syntax.specs.declared.types.Name.{Name}
-use Rattle.hilti_syntax.specs.declared.types.Word.{Word}
-use Rattle.hilti_syntax.specs.declared.types.TypeText.{TypeText}
-use Rattle.hilti_syntax.specs.declared.module.Body.{Body}
-use Rattle.hilti_syntax.specs.declared.module.Item.{Item}
-use Rattle.hilti_syntax.specs.declared.module.Item.TheVariants as items
-use Rattle.hilti_syntax.specs.declared.module.Literal.{Literal}
-use Rattle.hilti_syntax.specs.declared.module.Module.{Module}
-use Rattle.hilti_syntax.specs.declared.module.Parameter.{Parameter}
-use Rattle.hilti_syntax.specs.declared.module.Shape.{Shape}
-use Rattle.hilti_syntax.specs.declared.module.Shape.TheVariants as shapes
+use Rattle.hilti_module.specs.declared.types.Name.{Name}
+use Rattle.hilti_module.specs.declared.types.Word.{Word}
+use Rattle.hilti_module.specs.declared.types.TypeText.{TypeText}
+use Rattle.hilti_module.specs.declared.module.Body.{Body}
+use Rattle.hilti_module.specs.declared.module.Item.{Item}
+use Rattle.hilti_module.specs.declared.module.Item.TheVariants as items
+use Rattle.hilti_module.specs.declared.module.Literal.{Literal}
+use Rattle.hilti_module.specs.declared.module.Module.{Module}
+use Rattle.hilti_module.specs.declared.module.Parameter.{Parameter}
+use Rattle.hilti_module.specs.declared.module.Shape.{Shape}
+use Rattle.hilti_module.specs.declared.module.Shape.TheVariants as shapes
 use Rattle.hilti_types.specs.declared.declared.Declared.{Declared}
 use Rattle.hilti_types.specs.declared.declared.Declared.TheVariants as tabled
 use Rattle.hilti_types.specs.declared.value_type.ValueType.{ValueType}
@@ -27,11 +27,12 @@ use Rattle.hilti_link.specs.declared.tables.LinkedHook.{LinkedHook}
 use Rattle.hilti_link.specs.declared.typed_words.Role.TheVariants as roles
 use Rattle.hilti_link.specs.Seeing.{View, refusal_of_type, type_at, again, qualified}
 use Rattle.hilti_link.specs.TypedWords.{names_of, words_refusal, kinds_of}
-use Rattle.hilti_link.specs.Shapes.{shape_refusal, struct_depth, member_of, overlay_field_of, parent_of}
+use Rattle.hilti_link.specs.Shapes.{shape_refusal, member_of, overlay_field_of}
+use Rattle.hilti_link.specs.Shapes.{parent_of}
 use Rattle.hilti_link.specs.Hooks.{hook_meant, hook_number}
 
--- the modules; the number and the name of the item's module; the item's number in it and among all items; and what the
--- items in front of it declare
+-- the modules; the number and the name of the item's module; the item's number in it and among all
+-- items; and what the items in front of it declare
 pub record Seen : Type 0 where
   pub modules : List Module
   pub file : ℕ
@@ -42,14 +43,18 @@ pub record Seen : Type 0 where
 
 -- what is seen there behind these parameters and locals
 abbrev pub view_behind : Seen → List (List ℕ) → View
-view_behind seen locals = record { tables = seen.tables; mean = meaning_in seen.modules seen.file seen.here locals }
+view_behind seen locals =
+    record { tables = seen.tables; mean = meaning_in seen.modules seen.file seen.here locals }
 
 abbrev pub view_of : Seen → View
 view_of seen = view_behind seen []
 
--- a declared name is refused where its module declares it before, or it is that of a built-in exception
+-- a declared name is refused where its module declares it before, or it is that of a built-in
+-- exception
 abbrev pub declared_again : Seen → Word → Option Refusal
-declared_again seen word = again (not (is_first seen.modules seen.file seen.here word.bytes) || is_built_in word.bytes) word
+declared_again seen word =
+    let taken = not (is_first seen.modules seen.file seen.here word.bytes) in
+    again (taken || is_built_in word.bytes) word
 
 abbrev pub value_refusal_by : View → ValueType → Option Literal → Option Refusal
 value_refusal_by view kind None = None
@@ -74,32 +79,48 @@ slots_refusal seen slots = words_refusal (slots_view seen slots) roles.Slot slot
 
 -- the first refusal of an item, its parts in textual order
 unfoldable pub item_refusal : Seen → Item → Option Refusal
-item_refusal seen (items.Type name shape) = option_or (declared_again seen name) (shape_refusal (view_of seen) shape)
+item_refusal seen (items.Type name shape) =
+    option_or (declared_again seen name) (shape_refusal (view_of seen) shape)
 item_refusal seen (items.Global kind name value) =
-    option_or (refusal_of_type (view_of seen) kind) (option_or (declared_again seen name) (value_refusal (view_of seen) kind value))
-item_refusal seen (items.Hook name parameters) = option_or (declared_again seen name) (words_refusal (view_of seen) roles.Slot parameters)
+    option_or (refusal_of_type (view_of seen) kind)
+    (option_or (declared_again seen name) (value_refusal (view_of seen) kind value))
+item_refusal seen (items.Hook name parameters) =
+    option_or (declared_again seen name) (words_refusal (view_of seen) roles.Slot parameters)
 item_refusal seen (items.HookBody name parameters priority body) =
     let slots = slots_of parameters body in
-    option_or (hook_meant seen.modules (meaning_in seen.modules seen.file seen.here (names_of slots)) parameters name.first.place (meaning_in seen.modules seen.file seen.here [] name)) (slots_refusal seen slots)
+    let inside = meaning_in seen.modules seen.file seen.here (names_of slots) in
+    let meaning = meaning_in seen.modules seen.file seen.here [] name in
+    option_or (hook_meant seen.modules inside parameters name.first.place meaning)
+    (slots_refusal seen slots)
 item_refusal seen (items.Function result name parameters body) =
-    option_or (result_refusal (view_of seen) result) (option_or (declared_again seen name) (slots_refusal seen (slots_of parameters body)))
+    option_or (result_refusal (view_of seen) result)
+    (option_or (declared_again seen name) (slots_refusal seen (slots_of parameters body)))
 
 -- where an item is declared
 abbrev pub site_of : Seen → Word → Site
 site_of seen word = record { file = seen.file; item = seen.at; place = word.place }
 
 -- a type at the end of the table
-abbrev pub with_type : Tables → Site → ℕ → Declared → Tables
-with_type tables site depth declared = record tables { types = tables.types ++ declared ∷ []; sites = tables.sites ++ site ∷ []; depths = tables.depths ++ depth ∷ [] }
+abbrev pub with_type : Tables → Site → Declared → Tables
+with_type tables site declared =
+    record tables {
+      types = tables.types ++ declared ∷ [];
+      sites = tables.sites ++ site ∷ [];
+    }
 
 abbrev pub with_exception : Tables → LinkedException → Tables
 with_exception tables exception = record tables { exceptions = tables.exceptions ++ exception ∷ [] }
 
 abbrev pub with_shape : View → Site → List ℕ → Shape → Tables
-with_shape view site name (shapes.Struct place fields) = with_type view.tables site (struct_depth view fields) (tabled.Struct name (map (member_of view) fields))
-with_shape view site name (shapes.Enum place words) = with_type view.tables site 1 (tabled.Enum name (map (λ word. word.bytes) words))
-with_shape view site name (shapes.Overlay place fields) = with_type view.tables site 1 (tabled.Overlay name (map (overlay_field_of view) fields))
-with_shape view site name (shapes.Exception place parent) = with_exception view.tables (record { site = site; name = name; parent = parent_of view parent })
+with_shape view site name (shapes.Struct place fields) =
+    with_type view.tables site
+    (tabled.Struct name (map (member_of view) fields))
+with_shape view site name (shapes.Enum place words) =
+    with_type view.tables site (tabled.Enum name (map (λ word. word.bytes) words))
+with_shape view site name (shapes.Overlay place fields) =
+    with_type view.tables site (tabled.Overlay name (map (overlay_field_of view) fields))
+with_shape view site name (shapes.Exception place parent) =
+    with_exception view.tables (record { site = site; name = name; parent = parent_of view parent })
 
 -- a name as it is shown where it was written in this module
 abbrev pub shown_by : List ℕ → Word → Option Word → List ℕ
@@ -112,10 +133,18 @@ shown owner name = shown_by owner name.first name.second
 abbrev pub with_function : Tables → LinkedFunction → Tables
 with_function tables function = record tables { functions = tables.functions ++ function ∷ [] }
 
-abbrev pub function_of : Seen → Word → List ℕ → List Parameter → Body → Option ValueType → Option ℕ → LinkedFunction
+abbrev pub function_of :
+    Seen → Word → List ℕ → List Parameter → Body → Option ValueType → Option ℕ → LinkedFunction
 function_of seen word name parameters body result hook =
     let slots = slots_of parameters body in
-    record { site = site_of seen word; name = name; parameters = length parameters; slots = kinds_of (slots_view seen slots) slots; result = result; hook = hook }
+    record {
+      site = site_of seen word;
+      name = name;
+      parameters = length parameters;
+      slots = kinds_of (slots_view seen slots) slots;
+      result = result;
+      hook = hook;
+    }
 
 abbrev pub with_global : Tables → LinkedGlobal → Tables
 with_global tables global = record tables { globals = tables.globals ++ global ∷ [] }
@@ -125,12 +154,25 @@ with_hook tables hook = record tables { hooks = tables.hooks ++ hook ∷ [] }
 
 -- what is declared behind an item
 unfoldable pub tables_behind : Seen → Item → Tables
-tables_behind seen (items.Type name shape) = with_shape (view_of seen) (site_of seen name) (qualified seen.owner name.bytes) shape
+tables_behind seen (items.Type name shape) =
+    with_shape (view_of seen) (site_of seen name) (qualified seen.owner name.bytes) shape
 tables_behind seen (items.Global kind name value) =
-    with_global seen.tables (record { site = site_of seen name; name = qualified seen.owner name.bytes; kind = type_at (view_of seen) kind })
+    with_global seen.tables (record {
+      site = site_of seen name;
+      name = qualified seen.owner name.bytes;
+      kind = type_at (view_of seen) kind;
+    })
 tables_behind seen (items.Hook name parameters) =
-    with_hook seen.tables (record { site = site_of seen name; name = qualified seen.owner name.bytes; parameters = kinds_of (view_of seen) parameters })
+    with_hook seen.tables (record {
+      site = site_of seen name;
+      name = qualified seen.owner name.bytes;
+      parameters = kinds_of (view_of seen) parameters;
+    })
 tables_behind seen (items.HookBody name parameters priority body) =
-    with_function seen.tables (function_of seen name.first (shown seen.owner name) parameters body None (hook_number (meaning_in seen.modules seen.file seen.here [] name)))
+    let hook = hook_number (meaning_in seen.modules seen.file seen.here [] name) in
+    with_function seen.tables
+    (function_of seen name.first (shown seen.owner name) parameters body None hook)
 tables_behind seen (items.Function result name parameters body) =
-    with_function seen.tables (function_of seen name (qualified seen.owner name.bytes) parameters body (option_map (type_at (view_of seen)) result) None)
+    let returns = option_map (type_at (view_of seen)) result in
+    with_function seen.tables
+    (function_of seen name (qualified seen.owner name.bytes) parameters body returns None)

@@ -10,3 +10,4 @@ pub mod Linking
 pub mod Announcing
 pub mod Standings
 pub mod Refusals
+pub mod Laws

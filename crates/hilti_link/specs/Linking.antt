@@ -1,10 +1,11 @@
 -- What modules declare all together.
-use Rattle.std.specs.Prelude.{ℕ, suc, List, [], Bool, false, nat_eq, not, sum_by, Option, Some, None}
+use Rattle.std.specs.Prelude.{ℕ, suc, List, [], Bool, false, nat_eq, not, sum_by, Option, Some}
+use Rattle.std.specs.Prelude.{None}
 use Rattle.std.specs.Option.{option_or}
 use Rattle.hilti_base.specs.declared.refusal.Refusal.{Refusal}
-use Rattle.hilti_syntax.specs.declared.module.Item.{Item}
-use Rattle.hilti_syntax.specs.declared.module.Module.{Module}
-use Rattle.hilti_syntax.specs.Counts.{module_count}
+use Rattle.hilti_module.specs.declared.module.Item.{Item}
+use Rattle.hilti_module.specs.declared.module.Module.{Module}
+use Rattle.hilti_module.specs.Counts.{module_count}
 use Rattle.hilti_scope.specs.Items.{module_named}
 use Rattle.hilti_link.specs.declared.tables.Tables.{Tables}
 use Rattle.hilti_link.specs.InTurn.{first_in_turn, behind_all}
@@ -12,7 +13,15 @@ use Rattle.hilti_link.specs.Seeing.{again}
 use Rattle.hilti_link.specs.Items.{Seen, item_refusal, tables_behind}
 
 abbrev pub no_tables : Tables
-no_tables = record { types = []; sites = []; depths = []; globals = []; functions = []; hooks = []; exceptions = [] }
+no_tables =
+    record {
+      types = [];
+      sites = [];
+      globals = [];
+      functions = [];
+      hooks = [];
+      exceptions = [];
+    }
 
 -- how many items and other parts modules have in all
 abbrev pub modules_count : List Module → ℕ
@@ -20,7 +29,8 @@ modules_count modules = sum_by (λ m. module_count m.items) modules
 
 -- what the next item of the module sees
 abbrev pub behind_item : Seen → Item → Seen
-behind_item seen item = record seen { at = suc seen.at; here = suc seen.here; tables = tables_behind seen item }
+behind_item seen item =
+    record seen { at = suc seen.at; here = suc seen.here; tables = tables_behind seen item }
 
 -- what the first item of a module sees
 abbrev pub entering : Seen → Module → Seen
@@ -49,7 +59,8 @@ module_refusal seen m = option_or (named_again seen m) (items_refusal (entering 
 
 -- nothing is declared in front of the first module
 abbrev pub seen_first : List Module → Seen
-seen_first modules = record { modules = modules; file = 0; owner = []; at = 0; here = 0; tables = no_tables }
+seen_first modules =
+    record { modules = modules; file = 0; owner = []; at = 0; here = 0; tables = no_tables }
 
 abbrev pub modules_refusal : List Module → Option Refusal
 modules_refusal modules = first_in_turn module_refusal behind_module (seen_first modules) modules

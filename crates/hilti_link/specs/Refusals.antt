@@ -2,7 +2,7 @@
 use Rattle.std.specs.Prelude.{List, Option}
 use Rattle.std.specs.Option.{option_or}
 use Rattle.hilti_base.specs.declared.refusal.Refusal.{Refusal}
-use Rattle.hilti_syntax.specs.declared.module.Module.{Module}
+use Rattle.hilti_module.specs.declared.module.Module.{Module}
 use Rattle.hilti_link.specs.Entries.{entries_refusal}
 use Rattle.hilti_link.specs.Linking.{modules_refusal}
 

@@ -1,11 +1,13 @@
 -- What a name or a written type says where it stands.
-use Rattle.std.specs.Prelude.{ℕ, List, [], ◌∷◌, ◌++◌, codes, cond, Bool, Option, Some, None, Result, Ok, Err}
+use Rattle.std.specs.Prelude.{ℕ, List, [], ◌∷◌, ◌++◌, codes, cond, Bool, Option, Some, None, Result}
+use Rattle.std.specs.Prelude.{Ok, Err}
 use Rattle.hilti_base.specs.declared.names.Place.{Place}
 use Rattle.hilti_base.specs.declared.refusal.Refusal.{Refusal}
 use Rattle.hilti_base.specs.declared.refusal.Refusal.TheVariants.{At}
-use Rattle.hilti_syntax.specs.declared.types.Name.{Name}
-use Rattle.hilti_syntax.specs.declared.types.Word.{Word}
-use Rattle.hilti_syntax.specs.declared.types.TypeText.{TypeText}
+use Rattle.hilti_module.specs.declared.types.Name.{Name}
+use Rattle.hilti_module.specs.declared.types.Word.{Word}
+use Rattle.hilti_module.specs.declared.types.TypeText.{TypeText}
+use Rattle.hilti_types.specs.Depths.{depths}
 use Rattle.hilti_types.specs.declared.value_type.ValueType.{ValueType}
 use Rattle.hilti_types.specs.declared.value_type.ValueType.TheVariants as types
 use Rattle.hilti_scope.specs.declared.meaning.Meaning.{Meaning}
@@ -21,7 +23,7 @@ pub record View : Type 0 where
 
 -- the first refusal of a written type
 abbrev pub refusal_of_type : View → TypeText → Option Refusal
-refusal_of_type view text = type_refusal view.tables.types view.tables.depths view.mean text
+refusal_of_type view text = type_refusal view.tables.types view.mean text
 
 abbrev pub or_bool : Result ValueType Place → ValueType
 or_bool (Ok kind) = kind
@@ -33,7 +35,7 @@ type_at view text = or_bool (value_of view.tables.types view.mean text)
 
 -- how deep a written type nests
 abbrev pub depth_at : View → TypeText → ℕ
-depth_at view text = written_depth view.tables.depths view.mean text
+depth_at view text = written_depth (depths view.tables.types) view.mean text
 
 -- a word is refused where it is taken already
 abbrev pub again : Bool → Word → Option Refusal

@@ -1,17 +1,18 @@
 -- What declared types are.
-use Rattle.std.specs.Prelude.{ℕ, ◌+◌, nat_lt, List, [], cond, map, codes, Option, Some, None, Result, Ok, Err}
+use Rattle.std.specs.Prelude.{ℕ, ◌+◌, nat_lt, List, [], cond, map, codes, Option, Some, None}
+use Rattle.std.specs.Prelude.{Result, Ok, Err}
 use Rattle.std.specs.Option.{option_or}
 use Rattle.hilti_base.specs.declared.names.Place.{Place}
 use Rattle.hilti_base.specs.declared.refusal.Refusal.{Refusal}
 use Rattle.hilti_base.specs.declared.refusal.Refusal.TheVariants.{At}
-use Rattle.hilti_syntax.specs.declared.types.Name.{Name}
-use Rattle.hilti_syntax.specs.declared.types.Word.{Word}
-use Rattle.hilti_syntax.specs.declared.module.Parameter.{Parameter}
-use Rattle.hilti_syntax.specs.declared.module.Field.{Field}
-use Rattle.hilti_syntax.specs.declared.module.Form.{Form}
-use Rattle.hilti_syntax.specs.declared.module.Form.TheVariants as forms
-use Rattle.hilti_syntax.specs.declared.module.Shape.{Shape}
-use Rattle.hilti_syntax.specs.declared.module.Shape.TheVariants as shapes
+use Rattle.hilti_module.specs.declared.types.Name.{Name}
+use Rattle.hilti_module.specs.declared.types.Word.{Word}
+use Rattle.hilti_module.specs.declared.module.Parameter.{Parameter}
+use Rattle.hilti_module.specs.declared.module.Field.{Field}
+use Rattle.hilti_module.specs.declared.module.Form.{Form}
+use Rattle.hilti_module.specs.declared.module.Form.TheVariants as forms
+use Rattle.hilti_module.specs.declared.module.Shape.{Shape}
+use Rattle.hilti_module.specs.declared.module.Shape.TheVariants as shapes
 use Rattle.hilti_types.specs.declared.declared.Member.{Member}
 use Rattle.hilti_types.specs.declared.declared.OverlayField.{OverlayField}
 use Rattle.hilti_types.specs.declared.value_type.ValueType.{ValueType}
@@ -33,7 +34,8 @@ abbrev pub struct_depth : View → List Parameter → ℕ
 struct_depth view fields = 1 + greatest (map (λ field. depth_at view field.kind) fields)
 
 abbrev pub deep_struct : View → Place → List Parameter → Option Refusal
-deep_struct view place fields = cond (nat_lt 16 (struct_depth view fields)) (Some (At place 26)) None
+deep_struct view place fields =
+    cond (nat_lt 16 (struct_depth view fields)) (Some (At place 26)) None
 
 -- a constant is refused where it stands again
 abbrev pub constant_refusal : List (List ℕ) → Word → Option Refusal
@@ -46,16 +48,19 @@ abbrev pub no_form : Option FieldForm → Place → Option Refusal
 no_form None place = Some (At place 25)
 no_form (Some form) place = None
 
--- a field whose type stands for one, all its names known, is refused at its name where the form doesn't serve the type
+-- a field is refused at its name where its type breaks the rules of types or isn't its form's;
+-- where a name in its type means nothing, neither is looked at
 abbrev pub form_refusal : Option Place → Result ValueType Place → Form → Place → Option Refusal
 form_refusal None (Ok kind) form place = no_form (form_of kind form) place
-form_refusal None (Err broken) form place = None
+form_refusal None (Err broken) form place = Some (At place 25)
 form_refusal (Some unknown) value form place = None
 
 abbrev pub field_refusal : View → List (List ℕ) → Field → Option Refusal
 field_refusal view taken field =
+    let unknown = first_unknown view.mean field.kind in
+    let value = value_of view.tables.types view.mean field.kind in
     option_or (again (is_among taken field.name.bytes) field.name)
-    (option_or (form_refusal (first_unknown view.mean field.kind) (value_of view.tables.types view.mean field.kind) field.form field.name.place)
+    (option_or (form_refusal unknown value field.form field.name.place)
     (refusal_of_type view field.kind))
 
 abbrev pub taking_field : List (List ℕ) → Field → List (List ℕ)
@@ -78,7 +83,8 @@ abbrev pub parent_refusal : View → Option Name → Option Refusal
 parent_refusal view parent = parent_refusal_by view.mean parent
 
 abbrev pub shape_refusal : View → Shape → Option Refusal
-shape_refusal view (shapes.Struct place fields) = option_or (deep_struct view place fields) (words_refusal view roles.Member fields)
+shape_refusal view (shapes.Struct place fields) =
+    option_or (deep_struct view place fields) (words_refusal view roles.Member fields)
 shape_refusal view (shapes.Enum place words) = constants_refusal words
 shape_refusal view (shapes.Overlay place fields) = fields_refusal view fields
 shape_refusal view (shapes.Exception place parent) = parent_refusal view parent
@@ -98,7 +104,14 @@ or_no_form (Some form) = form
 abbrev pub overlay_field_by : Field → ValueType → OverlayField
 overlay_field_by field kind =
     let form = or_no_form (form_of kind field.form) in
-    record { name = field.name.bytes; kind = kind; offset = field.offset.value; form = form_word field.form; size = form.size; bits = form.bits }
+    record {
+      name = field.name.bytes;
+      kind = kind;
+      offset = field.offset.value;
+      form = form_word field.form;
+      size = form.size;
+      bits = form.bits;
+    }
 
 abbrev pub overlay_field_of : View → Field → OverlayField
 overlay_field_of view field = overlay_field_by field (type_at view field.kind)

@@ -2,7 +2,7 @@
 use Rattle.std.specs.Prelude.{ℕ, List, [], Bool, false, ◌||◌, map, Option}
 use Rattle.std.specs.Option.{option_or}
 use Rattle.hilti_base.specs.declared.refusal.Refusal.{Refusal}
-use Rattle.hilti_syntax.specs.declared.module.Parameter.{Parameter}
+use Rattle.hilti_module.specs.declared.module.Parameter.{Parameter}
 use Rattle.hilti_types.specs.declared.value_type.ValueType.{ValueType}
 use Rattle.hilti_scope.specs.Meanings.{is_among, is_built_in}
 use Rattle.hilti_link.specs.declared.typed_words.Role.{Role}
@@ -21,7 +21,8 @@ is_reserved roles.Member bytes = false
 -- the type is looked at, and then the word
 abbrev pub word_refusal : View → Role → List (List ℕ) → Parameter → Option Refusal
 word_refusal view role taken next =
-    option_or (refusal_of_type view next.kind) (again (is_among taken next.name.bytes || is_reserved role next.name.bytes) next.name)
+    option_or (refusal_of_type view next.kind)
+    (again (is_among taken next.name.bytes || is_reserved role next.name.bytes) next.name)
 
 abbrev pub taking_word : List (List ℕ) → Parameter → List (List ℕ)
 taking_word taken next = taking taken next.name

@@ -13,3 +13,7 @@ view_in tables scope = record { tables = tables; mean = means scope }
 -- the words that are noted are these
 abbrev pub Holds : List (List ℕ) → List (List ℕ × ℕ) → Type 0
 Holds words noted = (bytes : List ℕ) → is_some (place_of noted bytes) ≡ is_among words bytes
+
+-- what holds of all words that are noted
+abbrev pub ForWords : List (List ℕ × ℕ) → (List (List ℕ) → Type 0) → Type 0
+ForWords noted holds = (words : List (List ℕ)) → Holds words noted → holds words

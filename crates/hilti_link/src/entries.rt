@@ -2,17 +2,17 @@
 ghost use Rattle.std.specs.Prelude.{◌≡◌, ℕ, List, Option, None, Some, bytes_eq, cond, codes, map};
 ghost use Rattle.std.specs.List.{find, list_any};
 ghost use Rattle.std.specs.Option.{option_copied};
-ghost use Rattle.hilti_syntax.specs.declared.module.Module.{Module as AModule};
-ghost use Rattle.hilti_syntax.specs.declared.types.Parametric.{out-Parametric};
+ghost use Rattle.hilti_module.specs.declared.module.Module.{Module as AModule};
+ghost use Rattle.hilti_module.specs.declared.types.Parametric.{out-Parametric};
 ghost use Rattle.hilti_resolve.specs.Names.{first_of};
 ghost use Rattle.hilti_link.specs.Entries as spec;
 ghost use Rattle.hilti_link.specs.InTurn.{Answers};
 
 use hilti_base::{Place, Refusal};
-use hilti_scope::Modules;
-use hilti_syntax::{
+use hilti_module::{
     InnerText, Item, Module, Parameter, Parametric, PlainInner, PlainType, TypeText, Word,
 };
+use hilti_scope::Modules;
 
 const NO_PACKET: u32 = 22;
 
@@ -31,7 +31,8 @@ pub fn refuse_entries(modules: &Modules) -> Result<(), Refusal>
 
 /// Refuses the items of `Main`: where none declares `packet` as a function, else the first entry that isn't as it is asked.
 fn refuse_main(items: &[Item]) -> Result<(), Refusal>
-    ensures { Answers result (cond (list_any spec.declares_packet items.now) (first_of (map spec.entry_refusal items.now)) spec.no_packet) }
+    ensures { Answers result (cond (list_any spec.declares_packet items.now)
+        (first_of (map spec.entry_refusal items.now)) spec.no_packet) }
 {
     if has_packet(items) {
         refuse_items(items)
@@ -56,7 +57,8 @@ fn no_packet() -> Refusal
 
 /// The first module of the name `Main`.
 fn find_main(modules: &[Module]) -> Option<&Module>
-    ensures { option_copied result ≡ find (λ (m : AModule). bytes_eq m.name.bytes (codes "Main")) modules.now }
+    ensures { option_copied result ≡ find (λ (m : AModule). bytes_eq m.name.bytes (codes "Main"))
+        modules.now }
 {
     modules
         .iter()
@@ -137,7 +139,8 @@ fn is_as_asked(item: &Item, name: &Word) -> bool
 
 /// Refuses a name of an entry, unless what it names is as asked.
 fn refuse_name(name: &Word, as_asked: bool) -> Result<(), Refusal>
-    ensures { Answers result (cond (spec.is_entry name.now.bytes) (spec.unless as_asked name.now) None) }
+    ensures { Answers result
+        (cond (spec.is_entry name.now.bytes) (spec.unless as_asked name.now) None) }
 {
     let word = name.bytes.bytes();
     let is_entry = word == b"packet".as_slice()

@@ -1,21 +1,21 @@
 //! Hooks and their bodies.
-ghost use Rattle.std.specs.Prelude.{◌≡◌, ◌+◌, ◌<◌, ◌^◌, ◌++◌, ◌||◌, ℕ, List, IfOk, OnOk, length, map};
+ghost use Rattle.std.specs.Prelude.{◌≡◌, ◌+◌, ◌<◌, ◌^◌, ◌++◌, ℕ, List, IfOk, OnOk, length, map};
 ghost use Rattle.std.specs.List.{slice_get};
-ghost use Rattle.hilti_syntax.specs.declared.module.Module.{Module as AModule};
+ghost use Rattle.hilti_module.specs.declared.module.Module.{Module as AModule};
 ghost use Rattle.hilti_scope.specs.Items.{placed, placed_in};
 ghost use Rattle.hilti_scope.specs.Scopes.{means};
 ghost use Rattle.hilti_resolve.specs.Same.{all_same};
 ghost use Rattle.hilti_link.specs.InTurn.{Answers};
 ghost use Rattle.hilti_link.specs.Hooks as spec;
-ghost use Rattle.hilti_link.specs.Hooks.{has_unknown, hook_agrees};
+ghost use Rattle.hilti_link.specs.Hooks.{hook_agrees};
 ghost use Rattle.hilti_link.specs.Announcing.{shows};
 ghost use Rattle.hilti_link.specs.Standings.{IsContext};
 
 use crate::standing::Context;
 use hilti_base::{NoMemory, Place, Refusal};
+use hilti_module::{Item, Module, Name, Parameter, Parameters};
 use hilti_resolve::{first_unknown, same_type};
 use hilti_scope::{Meaning, Modules, Scope};
-use hilti_syntax::{Item, Module, Name, Parameter, Parameters};
 use std::alloc::Global;
 
 const UNKNOWN: u32 = 21;
@@ -52,7 +52,9 @@ fn announce_module<'a>(
     next: &'a Module,
 ) -> Result<(), NoMemory>
     requires { here + length next.now.items < 2 ^ 31 }
-    ensures { OnOk result (map shows hooks.new.items ≡ map shows hooks.old.items ++ spec.announced_from here (placed_in file next.now.items)) }
+    ensures { OnOk result (map shows hooks.new.items
+        ≡ map shows hooks.old.items ++ spec.announced_from
+        here (placed_in file next.now.items)) }
 {
     for (at, item) in next.items.as_slice().iter().enumerate() {
         if let Item::Hook {
@@ -84,7 +86,8 @@ fn agrees(
     hook_scope: &Scope<'_>,
     hook_parameters: &[Parameter],
 ) -> bool
-    ensures { result ≡ all_same (spec.all_say (means scope.now) parameters.now) (spec.all_say (means hook_scope.now) hook_parameters.now) }
+    ensures { result ≡ all_same (spec.all_say (means scope.now) parameters.now)
+        (spec.all_say (means hook_scope.now) hook_parameters.now) }
 {
     if parameters.len() != hook_parameters.len() {
         return false;
@@ -112,7 +115,8 @@ pub fn read_hook(
     meaning: Meaning,
 ) -> Result<Option<u32>, Refusal>
     ensures hook { IfOk result (λ hook. hook ≡ spec.hook_number meaning) }
-    ensures refusal { (modules : List AModule) → IsContext modules context.now → Answers result (spec.hook_meant modules (means scope.now) parameters.now place meaning) }
+    ensures refusal { (modules : List AModule) → IsContext modules context.now
+        → Answers result (spec.hook_meant modules (means scope.now) parameters.now place meaning) }
 {
     match meaning {
         Meaning::Nothing => Err(Refusal::At {
@@ -126,7 +130,7 @@ pub fn read_hook(
                 Err(mismatch(place))
             }
         }
-        Meaning::Local
+        Meaning::Local { slot: _ }
         | Meaning::Struct { n: _ }
         | Meaning::Enum { n: _ }
         | Meaning::Overlay { n: _ }
@@ -154,14 +158,28 @@ fn fits(
     scope: &Scope<'_>,
     parameters: &[Parameter],
 ) -> bool
-    ensures { (modules : List AModule) → IsContext modules context.now → result ≡ (has_unknown (means scope.now) parameters.now || hook_agrees modules (means scope.now) parameters.now (slice_get (spec.announced modules) n)) }
+    ensures { (modules : List AModule) → IsContext modules context.now
+        → result ≡ hook_agrees modules (means scope.now) parameters.now
+        (slice_get (spec.announced modules) n) }
 {
-    if has_unknown(scope, parameters) {
-        return true;
-    }
     let Some(hook) = context.hooks.get(n as usize) else {
         return false;
     };
     let hook_scope = Scope::new(alloc, &context.declarations, hook.file, hook.here);
-    agrees(scope, parameters, &hook_scope, hook.parameters.as_slice())
+    are_hooks(scope, parameters, &hook_scope, hook.parameters.as_slice())
+}
+
+/// Whether the parameters of a body are those of its hook, or a name in a type of either means nothing.
+fn are_hooks(
+    scope: &Scope<'_>,
+    parameters: &[Parameter],
+    hook_scope: &Scope<'_>,
+    hook_parameters: &[Parameter],
+) -> bool
+    ensures { result ≡ spec.are_hooks (means scope.now) parameters.now (means hook_scope.now)
+        hook_parameters.now }
+{
+    has_unknown(scope, parameters)
+        || has_unknown(hook_scope, hook_parameters)
+        || agrees(scope, parameters, hook_scope, hook_parameters)
 }

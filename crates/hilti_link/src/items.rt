@@ -1,24 +1,23 @@
 //! Items, and what they declare.
 ghost use Rattle.std.specs.Prelude.{◌≡◌, Option, OnOk, IfOk};
 ghost use Rattle.std.specs.Option.{option_map};
-ghost use Rattle.hilti_syntax.specs.declared.types.Number.{Number};
+ghost use Rattle.hilti_module.specs.declared.types.Number.{Number};
 ghost use Rattle.hilti_link.specs.InTurn.{Answers};
 ghost use Rattle.hilti_link.specs.Items as spec;
-ghost use Rattle.hilti_link.specs.Items.{Seen};
 ghost use Rattle.hilti_link.specs.Seeing.{type_at};
 ghost use Rattle.hilti_link.specs.Shapes.{shape_refusal};
-ghost use Rattle.hilti_link.specs.Standings.{IsContext, Stands};
+ghost use Rattle.hilti_link.specs.Standings.{Adds, AnswersFor};
 ghost use Rattle.hilti_link.specs.Views.{view_in};
 
 use crate::hooks::read_hook;
-use crate::shapes::{read_constants, read_fields, read_members, read_parent, read_struct_depth};
+use crate::shapes::{read_constants, read_fields, read_members, read_parent, refuse_depth};
 use crate::standing::{Context, Standing};
 use crate::tables::{LinkedException, LinkedFunction, LinkedGlobal, LinkedHook, Site, Tables};
 use crate::typed_words::{Role, read_slots, read_words};
 use hilti_base::{Blob, Refusal};
+use hilti_module::{Body, Item, Literal, Name, Parameter, Parameters, Shape, TypeText, Word};
 use hilti_resolve::{check_literal, read_type};
 use hilti_scope::Scope;
-use hilti_syntax::{Body, Item, Literal, Name, Parameter, Parameters, Shape, TypeText, Word};
 use hilti_types::{Declared, ValueType, ValueTypes};
 use std::alloc::Global;
 
@@ -30,8 +29,8 @@ pub fn link_item(
     tables: &mut Tables,
     item: &Item,
 ) -> Result<(), Refusal>
-    ensures tables { OnOk result ((seen : Seen) → IsContext seen.modules context.now → Stands seen standing.now → seen.tables ≡ tables.old → tables.new ≡ spec.tables_behind seen item.now) }
-    ensures refusal { (seen : Seen) → IsContext seen.modules context.now → Stands seen standing.now → seen.tables ≡ tables.old → Answers result (spec.item_refusal seen item.now) }
+    ensures tables { OnOk result (Adds context.now standing.now tables.old item.now tables.new) }
+    ensures refusal { AnswersFor context.now standing.now tables.old item.now result }
 {
     match item {
         Item::Type { name, shape } => link_type(alloc, context, standing, tables, name, shape),
@@ -67,8 +66,11 @@ fn link_type(
     name: &Word,
     shape: &Shape,
 ) -> Result<(), Refusal>
-    ensures tables { OnOk result ((seen : Seen) → IsContext seen.modules context.now → Stands seen standing.now → seen.tables ≡ tables.old → tables.new ≡ spec.tables_behind seen (Item.Type name.now shape.now)) }
-    ensures refusal { (seen : Seen) → IsContext seen.modules context.now → Stands seen standing.now → seen.tables ≡ tables.old → Answers result (spec.item_refusal seen (Item.Type name.now shape.now)) }
+    ensures tables { OnOk result
+        (Adds context.now standing.now tables.old (Item.Type name.now shape.now)
+        tables.new) }
+    ensures refusal { AnswersFor context.now standing.now tables.old
+        (Item.Type name.now shape.now) result }
 {
     let scope = standing.scope(alloc, &context.declarations);
     standing.refuse_declared(&scope, name)?;
@@ -85,22 +87,24 @@ fn link_shape(
     name: Blob,
     shape: &Shape,
 ) -> Result<(), Refusal>
-    ensures tables { OnOk result (tables.new ≡ spec.with_shape (view_in tables.old scope.now) site name shape.now) }
+    ensures tables { OnOk result (tables.new
+        ≡ spec.with_shape (view_in tables.old scope.now) site name
+        shape.now) }
     ensures refusal { Answers result (shape_refusal (view_in tables.old scope.now) shape.now) }
 {
     match shape {
         Shape::Struct { place, fields } => {
-            let depth = read_struct_depth(tables, scope, *place, fields.as_slice())?;
+            refuse_depth(tables, scope, *place, fields.as_slice())?;
             let fields = read_members(alloc, tables, scope, fields.as_slice())?;
-            Ok(tables.add_type(site, depth, Declared::Struct { name, fields })?)
+            Ok(tables.add_type(site, Declared::Struct { name, fields })?)
         }
         Shape::Enum { place: _, words } => {
             let words = read_constants(alloc, words.as_slice())?;
-            Ok(tables.add_type(site, 1, Declared::Enum { name, words })?)
+            Ok(tables.add_type(site, Declared::Enum { name, words })?)
         }
         Shape::Overlay { place: _, fields } => {
             let fields = read_fields(alloc, tables, scope, fields.as_slice())?;
-            Ok(tables.add_type(site, 1, Declared::Overlay { name, fields })?)
+            Ok(tables.add_type(site, Declared::Overlay { name, fields })?)
         }
         Shape::Exception { place: _, parent } => {
             let parent = read_parent(scope, parent)?;
@@ -123,11 +127,14 @@ fn link_global(
     name: &Word,
     value: &Option<Literal>,
 ) -> Result<(), Refusal>
-    ensures tables { OnOk result ((seen : Seen) → IsContext seen.modules context.now → Stands seen standing.now → seen.tables ≡ tables.old → tables.new ≡ spec.tables_behind seen (Item.Global kind.now name.now value.now)) }
-    ensures refusal { (seen : Seen) → IsContext seen.modules context.now → Stands seen standing.now → seen.tables ≡ tables.old → Answers result (spec.item_refusal seen (Item.Global kind.now name.now value.now)) }
+    ensures tables { OnOk result (Adds context.now standing.now tables.old
+        (Item.Global kind.now name.now value.now) tables.new) }
+    ensures refusal { AnswersFor context.now standing.now tables.old
+        (Item.Global kind.now name.now value.now)
+        result }
 {
     let scope = standing.scope(alloc, &context.declarations);
-    let kind = read_type(alloc, &scope, &tables.types, tables.depths.as_slice(), kind)?;
+    let kind = read_type(alloc, &scope, &tables.types, kind)?;
     standing.refuse_declared(&scope, name)?;
     refuse_value(&scope, tables, &kind, value)?;
     Ok(
@@ -146,7 +153,8 @@ fn refuse_value(
     kind: &ValueType,
     value: &Option<Literal>,
 ) -> Result<(), Refusal>
-    ensures { Answers result (spec.value_refusal_by (view_in tables.now scope.now) kind.now value.now) }
+    ensures { Answers result
+        (spec.value_refusal_by (view_in tables.now scope.now) kind.now value.now) }
 {
     let Some(literal) = value else {
         return Ok(());
@@ -166,8 +174,11 @@ fn link_hook(
     name: &Word,
     parameters: &Parameters,
 ) -> Result<(), Refusal>
-    ensures tables { OnOk result ((seen : Seen) → IsContext seen.modules context.now → Stands seen standing.now → seen.tables ≡ tables.old → tables.new ≡ spec.tables_behind seen (Item.Hook name.now parameters.now)) }
-    ensures refusal { (seen : Seen) → IsContext seen.modules context.now → Stands seen standing.now → seen.tables ≡ tables.old → Answers result (spec.item_refusal seen (Item.Hook name.now parameters.now)) }
+    ensures tables { OnOk result
+        (Adds context.now standing.now tables.old (Item.Hook name.now parameters.now)
+        tables.new) }
+    ensures refusal { AnswersFor context.now standing.now tables.old
+        (Item.Hook name.now parameters.now) result }
 {
     let scope = standing.scope(alloc, &context.declarations);
     standing.refuse_declared(&scope, name)?;
@@ -191,8 +202,11 @@ fn link_hook_body(
     parameters: &Parameters,
     body: &Body,
 ) -> Result<(), Refusal>
-    ensures tables { OnOk result ((seen : Seen) (priority : Option Number) → IsContext seen.modules context.now → Stands seen standing.now → seen.tables ≡ tables.old → tables.new ≡ spec.tables_behind seen (Item.HookBody name.now parameters.now priority body.now)) }
-    ensures refusal { (seen : Seen) (priority : Option Number) → IsContext seen.modules context.now → Stands seen standing.now → seen.tables ≡ tables.old → Answers result (spec.item_refusal seen (Item.HookBody name.now parameters.now priority body.now)) }
+    ensures tables { OnOk result ((priority : Option Number)
+        → Adds context.now standing.now tables.old
+        (Item.HookBody name.now parameters.now priority body.now) tables.new) }
+    ensures refusal { (priority : Option Number) → AnswersFor context.now standing.now tables.old
+        (Item.HookBody name.now parameters.now priority body.now) result }
 {
     let inside = standing.scope_behind(
         alloc,
@@ -235,17 +249,13 @@ fn read_result(
     scope: &Scope<'_>,
     returns: &Option<TypeText>,
 ) -> Result<Option<ValueType>, Refusal>
-    ensures kind { IfOk result (λ kind. kind ≡ option_map (type_at (view_in tables.now scope.now)) returns.now) }
-    ensures refusal { Answers result (spec.result_refusal (view_in tables.now scope.now) returns.now) }
+    ensures kind { IfOk result (λ kind. kind
+        ≡ option_map (type_at (view_in tables.now scope.now)) returns.now) }
+    ensures refusal { Answers result
+        (spec.result_refusal (view_in tables.now scope.now) returns.now) }
 {
     match returns {
-        Some(text) => Ok(Some(read_type(
-            alloc,
-            scope,
-            &tables.types,
-            tables.depths.as_slice(),
-            text,
-        )?)),
+        Some(text) => Ok(Some(read_type(alloc, scope, &tables.types, text)?)),
         None => Ok(None),
     }
 }
@@ -261,8 +271,10 @@ fn link_function(
     parameters: &Parameters,
     body: &Body,
 ) -> Result<(), Refusal>
-    ensures tables { OnOk result ((seen : Seen) → IsContext seen.modules context.now → Stands seen standing.now → seen.tables ≡ tables.old → tables.new ≡ spec.tables_behind seen (Item.Function returns.now name.now parameters.now body.now)) }
-    ensures refusal { (seen : Seen) → IsContext seen.modules context.now → Stands seen standing.now → seen.tables ≡ tables.old → Answers result (spec.item_refusal seen (Item.Function returns.now name.now parameters.now body.now)) }
+    ensures tables { OnOk result (Adds context.now standing.now tables.old
+        (Item.Function returns.now name.now parameters.now body.now) tables.new) }
+    ensures refusal { AnswersFor context.now standing.now tables.old
+        (Item.Function returns.now name.now parameters.now body.now) result }
 {
     let scope = standing.scope(alloc, &context.declarations);
     let result = read_result(alloc, tables, &scope, returns)?;

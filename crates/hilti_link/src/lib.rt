@@ -4,12 +4,11 @@
 mod entries;
 mod hooks;
 mod items;
+pub mod laws;
 mod linking;
 mod shapes;
 mod standing;
 mod tables;
-#[cfg(test)]
-mod tests;
 mod typed_words;
 
 pub use hilti_scope::Modules;

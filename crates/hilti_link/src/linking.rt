@@ -1,13 +1,14 @@
 //! Modules, an item after another.
-ghost use Rattle.std.specs.Prelude.{◌≡◌, ◌+◌, ◌≤◌, ◌<◌, ◌^◌, ℕ, None, Some, Err, IfOk, OnOk, length};
-ghost use Rattle.hilti_base.specs.declared.names.Place.{Place as APlace};
+ghost use Rattle.std.specs.Prelude.{◌≡◌, ◌+◌, ◌≤◌, ◌<◌, ◌^◌, ℕ, None, Some, Err, IfOk, OnOk};
+ghost use Rattle.std.specs.Prelude.{length};
+ghost use Rattle.hilti_resolve.specs.Answering.{RefusesAs};
 ghost use Rattle.hilti_scope.specs.Items.{placed};
 ghost use Rattle.hilti_scope.specs.Scopes.{AreOf};
 ghost use Rattle.hilti_link.specs.InTurn.{Answers};
 ghost use Rattle.hilti_link.specs.Items.{Seen};
 ghost use Rattle.hilti_link.specs.Linking as spec;
 ghost use Rattle.hilti_link.specs.Refusals.{first_refusal};
-ghost use Rattle.hilti_link.specs.Standings.{Enters, IsContext, tables_behind_module};
+ghost use Rattle.hilti_link.specs.Standings.{ForModule, IsContext, tables_behind_module};
 
 use crate::entries::refuse_entries;
 use crate::hooks::announce;
@@ -16,18 +17,46 @@ use crate::standing::{Context, Standing};
 use crate::tables::Tables;
 use crate::typed_words::refuse_again;
 use hilti_base::Refusal;
+use hilti_module::Module;
 use hilti_scope::{Declarations, Modules};
-use hilti_syntax::Module;
 use std::alloc::Global;
 
-/// Modules in word order, and what they declare. They have at most 16 times the items and other parts that one module may
-/// have.
+/// Modules in word order that are linked, and what they declare. Nothing in their declarations is refused, and they have at
+/// most 16 times the items and other parts that one module may have.
 #[derive(Drop)]
 pub struct Linked {
-    pub modules: Modules,
-    pub declarations: Declarations,
-    pub tables: Tables,
+    modules: Modules,
+    declarations: Declarations,
+    tables: Tables,
+    ghost accepted: { first_refusal modules ≡ None },
+    ghost declares: { AreOf modules declarations },
+    ghost tabled: { tables ≡ spec.tables_of modules },
     ghost bounded: { spec.modules_count modules ≤ 16777216 },
+}
+
+impl Linked {
+    /// The modules.
+    pub fn modules(&self) -> &Modules
+        ensures is { result.now ≡ self.now.modules }
+        ensures accepted { first_refusal result.now ≡ None }
+    {
+        &self.modules
+    }
+
+    /// What the names in the modules mean.
+    pub fn declarations(&self) -> &Declarations
+        ensures is { result.now ≡ self.now.declarations }
+        ensures of { AreOf self.now.modules result.now }
+    {
+        &self.declarations
+    }
+
+    /// What the modules declare.
+    pub fn tables(&self) -> &Tables
+        ensures { result.now ≡ spec.tables_of self.now.modules }
+    {
+        &self.tables
+    }
 }
 
 /// Links modules. The first refusal answers: in textual order a name that is declared again (code 20), a name that means
@@ -41,7 +70,7 @@ pub fn link(alloc: Global, modules: Modules) -> Result<Linked, Refusal>
     ensures declarations { IfOk result (λ linked. AreOf modules linked.declarations) }
     ensures tables { IfOk result (λ linked. linked.tables ≡ spec.tables_of modules) }
     ensures accepted { IfOk result (λ linked. first_refusal modules ≡ None) }
-    ensures refusal { (place : APlace) (code : ℕ) → result ≡ Err (Refusal.At place code) → first_refusal modules ≡ Some (Refusal.At place code) }
+    ensures refusal { RefusesAs result (first_refusal modules) }
 {
     let (declarations, tables) = link_all(alloc, &modules)?;
     refuse_entries(&modules)?;
@@ -90,7 +119,8 @@ fn link_modules(alloc: Global, context: &Context<'_>, modules: &Modules) -> Resu
 
 /// Refuses a module whose name one in front of it has.
 fn refuse_second(context: &Context<'_>, file: usize, module: &Module) -> Result<(), Refusal>
-    ensures { (seen : Seen) → IsContext seen.modules context.now → seen.file ≡ file → Answers result (spec.named_again seen «module».now) }
+    ensures { (seen : Seen) → IsContext seen.modules context.now → seen.file ≡ file
+        → Answers result (spec.named_again seen «module».now) }
 {
     let first = context.declarations.module(module.name.bytes.bytes());
     refuse_again(!is_own(file, first), &module.name)
@@ -116,8 +146,11 @@ fn link_module(
     module: &Module,
 ) -> Result<(), Refusal>
     requires { here + length «module».now.items < 2 ^ 31 }
-    ensures tables { OnOk result ((seen : Seen) → IsContext seen.modules context.now → Enters seen file here → seen.tables ≡ tables.old → tables.new ≡ tables_behind_module seen «module».now) }
-    ensures refusal { (seen : Seen) → IsContext seen.modules context.now → Enters seen file here → seen.tables ≡ tables.old → Answers result (spec.items_refusal (spec.entering seen «module».now) «module».now.items) }
+    ensures tables { OnOk result (ForModule context.now file here tables.old
+        (λ seen. tables.new ≡ tables_behind_module seen «module».now)) }
+    ensures refusal { ForModule context.now file here tables.old
+        (λ seen. Answers result
+        (spec.items_refusal (spec.entering seen «module».now) «module».now.items)) }
 {
     for (at, item) in module.items.as_slice().iter().enumerate() {
         let standing = Standing {

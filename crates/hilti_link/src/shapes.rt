@@ -10,17 +10,17 @@ ghost use Rattle.hilti_link.specs.InTurn.{Answers};
 ghost use Rattle.hilti_link.specs.Seeing.{again, depth_at};
 ghost use Rattle.hilti_link.specs.Shapes as spec;
 ghost use Rattle.hilti_link.specs.TypedWords.{word_refusal, words_refusal};
-ghost use Rattle.hilti_link.specs.Views.{view_in, Holds};
+ghost use Rattle.hilti_link.specs.Views.{ForWords, view_in};
 
 use crate::tables::Tables;
 use crate::typed_words::{Role, read_word, refuse_again};
 use hilti_base::{Blob, Names, NoMemory, Place, Refusal};
+use hilti_module::{Field, Form, Name, Parameter, Word};
 use hilti_resolve::{
     FieldForm, TypeFault, capped_depth, field_form, first_unknown, read_type,
     value_of as read_value,
 };
 use hilti_scope::{FirstPlaces, Meaning, Scope};
-use hilti_syntax::{Field, Form, Name, Parameter, Word};
 use hilti_types::{Member, Members, OverlayField, OverlayFields, ValueType};
 use std::alloc::Global;
 
@@ -35,34 +35,33 @@ const DEPTH: u32 = 16;
 
 /// How deep a struct nests, which is 1 more than its deepest field, and at most 18.
 fn struct_depth(tables: &Tables, scope: &Scope<'_>, fields: &[Parameter]) -> u32
-    ensures { result ≡ 1 + min 17 (greatest (map (λ field. depth_at (view_in tables.now scope.now) field.kind) fields.now)) }
+    ensures { result ≡ 1 + min 17
+        (greatest (map (λ field. depth_at (view_in tables.now scope.now) field.kind) fields.now)) }
 {
     let mut deepest = 0;
     for field in fields {
-        let field_depth = capped_depth(scope, tables.depths.as_slice(), &field.kind);
+        let field_depth = capped_depth(scope, &tables.types, &field.kind);
         deepest = deepest.max(field_depth);
     }
     1 + deepest
 }
 
-/// The depth of a struct, which is refused at its word where it is more than 16.
-pub fn read_struct_depth(
+/// Refuses a struct that nests deeper than 16, at its word.
+pub fn refuse_depth(
     tables: &Tables,
     scope: &Scope<'_>,
     place: Place,
     fields: &[Parameter],
-) -> Result<u32, Refusal>
-    ensures depth { IfOk result (λ depth. depth ≡ spec.struct_depth (view_in tables.now scope.now) fields.now) }
-    ensures refusal { Answers result (spec.deep_struct (view_in tables.now scope.now) place fields.now) }
+) -> Result<(), Refusal>
+    ensures { Answers result (spec.deep_struct (view_in tables.now scope.now) place fields.now) }
 {
-    let depth = struct_depth(tables, scope, fields);
-    if depth > DEPTH {
+    if struct_depth(tables, scope, fields) > DEPTH {
         return Err(Refusal::At {
             place,
             code: TYPE_DEPTH,
         });
     }
-    Ok(depth)
+    Ok(())
 }
 
 /// A member of a struct, behind those whose words are taken.
@@ -73,8 +72,10 @@ fn read_member(
     taken: &FirstPlaces,
     field: &Parameter,
 ) -> Result<Member, Refusal>
-    ensures member { IfOk result (λ member. member ≡ spec.member_of (view_in tables.now scope.now) field.now) }
-    ensures refusal { (words : List (List ℕ)) → Holds words taken.now → Answers result (word_refusal (view_in tables.now scope.now) roles.Member words field.now) }
+    ensures member { IfOk result (λ member. member
+        ≡ spec.member_of (view_in tables.now scope.now) field.now) }
+    ensures refusal { ForWords taken.now (λ words. Answers result
+        (word_refusal (view_in tables.now scope.now) roles.Member words field.now)) }
 {
     let kind = read_word(alloc, tables, scope, taken, Role::Member, field)?;
     let name = field.name.bytes.copy()?;
@@ -88,8 +89,11 @@ pub fn read_members(
     scope: &Scope<'_>,
     fields: &[Parameter],
 ) -> Result<Members, Refusal>
-    ensures members { IfOk result (λ members. members ≡ map (spec.member_of (view_in tables.now scope.now)) fields.now) }
-    ensures refusal { Answers result (words_refusal (view_in tables.now scope.now) roles.Member fields.now) }
+    ensures members { IfOk result (λ members. members
+        ≡ map (spec.member_of (view_in tables.now scope.now))
+        fields.now) }
+    ensures refusal { Answers result
+        (words_refusal (view_in tables.now scope.now) roles.Member fields.now) }
 {
     let mut members = Members::new(alloc);
     let mut taken = FirstPlaces::new(alloc);
@@ -103,7 +107,8 @@ pub fn read_members(
 
 /// Refuses a word that is among those that are taken.
 fn refuse_taken(taken: &FirstPlaces, word: &Word) -> Result<(), Refusal>
-    ensures { (words : List (List ℕ)) → Holds words taken.now → Answers result (again (is_among words word.now.bytes) word.now) }
+    ensures { ForWords taken.now
+        (λ words. Answers result (again (is_among words word.now.bytes) word.now)) }
 {
     let is_taken = taken.place(word.bytes.bytes()).is_some();
     refuse_again(is_taken, word)
@@ -125,22 +130,24 @@ pub fn read_constants(alloc: Global, words: &[Word]) -> Result<Names, Refusal>
     Ok(names)
 }
 
-/// Refuses a field whose form doesn't serve its type. A type that stands for none, or has a name that means nothing, isn't
-/// judged here.
+/// Refuses a field whose type breaks the rules of types or isn't its form's. Where a name in its type means nothing,
+/// neither is looked at.
 fn refuse_form(
     alloc: Global,
     tables: &Tables,
     scope: &Scope<'_>,
     field: &Field,
 ) -> Result<(), Refusal>
-    ensures { Answers result (spec.form_refusal (unknown_in (means scope.now) field.now.kind) (value_of tables.now.types (means scope.now) field.now.kind) field.now.form field.now.name.place) }
+    ensures { Answers result (spec.form_refusal (unknown_in (means scope.now) field.now.kind)
+        (value_of tables.now.types (means scope.now) field.now.kind) field.now.form
+        field.now.name.place) }
 {
     if first_unknown(scope, &field.kind).is_some() {
         return Ok(());
     }
     match read_value(alloc, scope, &tables.types, &field.kind) {
         Ok(kind) => refuse_no_form(field_form(&kind, &field.form), field.name.place),
-        Err(TypeFault::Broken { place: _ }) => Ok(()),
+        Err(TypeFault::Broken { place: _ }) => Err(bad_field(field.name.place)),
         Err(TypeFault::NoMemory) => Err(Refusal::NoMemory),
     }
 }
@@ -151,10 +158,17 @@ fn refuse_no_form(form: Option<FieldForm>, place: Place) -> Result<(), Refusal>
 {
     match form {
         Some(_) => Ok(()),
-        None => Err(Refusal::At {
-            place,
-            code: BAD_TYPE,
-        }),
+        None => Err(bad_field(place)),
+    }
+}
+
+/// The refusal of a field that breaks the rules.
+fn bad_field(place: Place) -> Refusal
+    ensures { result ≡ Refusal.At place 25 }
+{
+    Refusal::At {
+        place,
+        code: BAD_TYPE,
     }
 }
 
@@ -197,18 +211,14 @@ fn read_field(
     taken: &FirstPlaces,
     field: &Field,
 ) -> Result<OverlayField, Refusal>
-    ensures field { IfOk result (λ made. made ≡ spec.overlay_field_of (view_in tables.now scope.now) field.now) }
-    ensures refusal { (words : List (List ℕ)) → Holds words taken.now → Answers result (spec.field_refusal (view_in tables.now scope.now) words field.now) }
+    ensures field { IfOk result (λ made. made
+        ≡ spec.overlay_field_of (view_in tables.now scope.now) field.now) }
+    ensures refusal { ForWords taken.now (λ words. Answers result
+        (spec.field_refusal (view_in tables.now scope.now) words field.now)) }
 {
     refuse_taken(taken, &field.name)?;
     refuse_form(alloc, tables, scope, field)?;
-    let kind = read_type(
-        alloc,
-        scope,
-        &tables.types,
-        tables.depths.as_slice(),
-        &field.kind,
-    )?;
+    let kind = read_type(alloc, scope, &tables.types, &field.kind)?;
     Ok(overlay_field(alloc, field, kind)?)
 }
 
@@ -219,8 +229,11 @@ pub fn read_fields(
     scope: &Scope<'_>,
     fields: &[Field],
 ) -> Result<OverlayFields, Refusal>
-    ensures fields { IfOk result (λ made. made ≡ map (spec.overlay_field_of (view_in tables.now scope.now)) fields.now) }
-    ensures refusal { Answers result (spec.fields_refusal (view_in tables.now scope.now) fields.now) }
+    ensures fields { IfOk result (λ made. made
+        ≡ map (spec.overlay_field_of (view_in tables.now scope.now))
+        fields.now) }
+    ensures refusal { Answers result
+        (spec.fields_refusal (view_in tables.now scope.now) fields.now) }
 {
     let mut made = OverlayFields::new(alloc);
     let mut taken = FirstPlaces::new(alloc);
@@ -254,7 +267,7 @@ fn exception_number(meaning: Meaning, place: Place) -> Result<u32, Refusal>
             place,
             code: UNKNOWN,
         }),
-        Meaning::Local
+        Meaning::Local { slot: _ }
         | Meaning::Struct { n: _ }
         | Meaning::Enum { n: _ }
         | Meaning::Overlay { n: _ }

@@ -63,12 +63,11 @@ pub struct LinkedException {
 /// Exceptions in textual order; the first has number 7, behind the built-in ones.
 pub type LinkedExceptions = Collection<LinkedException>;
 
-/// What some items declare, each list numbered in textual order. A type's site and its depth stand at its number.
+/// What some items declare, each list numbered in textual order. A type's site stands at its number.
 #[derive(Debug, Drop)]
 pub struct Tables {
     pub types: TypeTable,
     pub sites: Collection<Site>,
-    pub depths: Collection<u32>,
     pub globals: LinkedGlobals,
     pub functions: LinkedFunctions,
     pub hooks: LinkedHooks,
@@ -83,7 +82,6 @@ impl Tables {
         Tables {
             types: TypeTable::new(alloc),
             sites: Collection::new(alloc),
-            depths: Collection::new(alloc),
             globals: LinkedGlobals::new(alloc),
             functions: LinkedFunctions::new(alloc),
             hooks: LinkedHooks::new(alloc),
@@ -92,16 +90,10 @@ impl Tables {
     }
 
     /// Adds a type at the end of the table. Without memory the tables are only dropped.
-    pub(crate) fn add_type(
-        &mut self,
-        site: Site,
-        depth: u32,
-        declared: Declared,
-    ) -> Result<(), NoMemory>
-        ensures { OnOk result (self.new ≡ with_type self.old site depth declared) }
+    pub(crate) fn add_type(&mut self, site: Site, declared: Declared) -> Result<(), NoMemory>
+        ensures { OnOk result (self.new ≡ with_type self.old site declared) }
     {
         self.types.push(declared)?;
-        self.sites.push(site)?;
-        self.depths.push(depth)
+        self.sites.push(site)
     }
 }

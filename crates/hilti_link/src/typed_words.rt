@@ -4,14 +4,14 @@ ghost use Rattle.hilti_scope.specs.FirstPlaces.{place_of};
 ghost use Rattle.hilti_link.specs.declared.typed_words.Role.TheVariants as roles;
 ghost use Rattle.hilti_link.specs.InTurn.{Answers, behind_all, first_in_turn};
 ghost use Rattle.hilti_link.specs.Seeing.{again, type_at};
-ghost use Rattle.hilti_link.specs.Views.{view_in, Holds};
+ghost use Rattle.hilti_link.specs.Views.{ForWords, view_in, Holds};
 ghost use Rattle.hilti_link.specs.TypedWords as spec;
 
 use crate::tables::Tables;
 use hilti_base::Refusal;
+use hilti_module::{Parameter, Word};
 use hilti_resolve::read_type;
 use hilti_scope::{FirstPlaces, Scope, is_built_in};
-use hilti_syntax::{Parameter, Word};
 use hilti_types::{ValueType, ValueTypes};
 use std::alloc::Global;
 
@@ -67,16 +67,12 @@ pub fn read_word(
     role: Role,
     word: &Parameter,
 ) -> Result<ValueType, Refusal>
-    ensures kind { IfOk result (λ kind. kind ≡ type_at (view_in tables.now scope.now) word.now.kind) }
-    ensures refusal { (words : List (List ℕ)) → Holds words taken.now → Answers result (spec.word_refusal (view_in tables.now scope.now) role words word.now) }
+    ensures kind { IfOk result (λ kind. kind
+        ≡ type_at (view_in tables.now scope.now) word.now.kind) }
+    ensures refusal { ForWords taken.now (λ words. Answers result
+        (spec.word_refusal (view_in tables.now scope.now) role words word.now)) }
 {
-    let kind = read_type(
-        alloc,
-        scope,
-        &tables.types,
-        tables.depths.as_slice(),
-        &word.kind,
-    )?;
+    let kind = read_type(alloc, scope, &tables.types, &word.kind)?;
     let is_taken = has_taken(taken, role, word.name.bytes.bytes());
     refuse_again(is_taken, &word.name)?;
     Ok(kind)
@@ -94,9 +90,14 @@ pub fn read_more_words(
     kinds: &mut ValueTypes,
     words: &[Parameter],
 ) -> Result<(), Refusal>
-    ensures kinds { OnOk result (kinds.new ≡ kinds.old ++ spec.kinds_of (view_in tables.now scope.now) words.now) }
-    ensures taken { OnOk result ((before : List (List ℕ)) → Holds before taken.old → Holds (behind_all spec.taking_word before words.now) taken.new) }
-    ensures refusal { (before : List (List ℕ)) → Holds before taken.old → Answers result (first_in_turn (spec.word_refusal (view_in tables.now scope.now) role) spec.taking_word before words.now) }
+    ensures kinds { OnOk result (kinds.new
+        ≡ kinds.old ++ spec.kinds_of (view_in tables.now scope.now)
+        words.now) }
+    ensures taken { OnOk result (ForWords taken.old
+        (λ before. Holds (behind_all spec.taking_word before words.now) taken.new)) }
+    ensures refusal { ForWords taken.old (λ before. Answers result
+        (first_in_turn (spec.word_refusal (view_in tables.now scope.now) role)
+        spec.taking_word before words.now)) }
 {
     for word in words {
         let kind = read_word(alloc, tables, scope, taken, role, word)?;
@@ -114,8 +115,10 @@ pub fn read_words(
     role: Role,
     words: &[Parameter],
 ) -> Result<ValueTypes, Refusal>
-    ensures kinds { IfOk result (λ kinds. kinds ≡ spec.kinds_of (view_in tables.now scope.now) words.now) }
-    ensures refusal { Answers result (spec.words_refusal (view_in tables.now scope.now) role words.now) }
+    ensures kinds { IfOk result (λ kinds. kinds
+        ≡ spec.kinds_of (view_in tables.now scope.now) words.now) }
+    ensures refusal { Answers result
+        (spec.words_refusal (view_in tables.now scope.now) role words.now) }
 {
     let mut kinds = ValueTypes::new(alloc);
     let mut taken = FirstPlaces::new(alloc);
@@ -131,8 +134,10 @@ pub fn read_slots(
     parameters: &[Parameter],
     locals: &[Parameter],
 ) -> Result<ValueTypes, Refusal>
-    ensures kinds { IfOk result (λ kinds. kinds ≡ spec.kinds_of (view_in tables.now scope.now) (parameters.now ++ locals.now)) }
-    ensures refusal { Answers result (spec.words_refusal (view_in tables.now scope.now) roles.Slot (parameters.now ++ locals.now)) }
+    ensures kinds { IfOk result (λ kinds. kinds ≡ spec.kinds_of (view_in tables.now scope.now)
+        (parameters.now ++ locals.now)) }
+    ensures refusal { Answers result (spec.words_refusal (view_in tables.now scope.now) roles.Slot
+        (parameters.now ++ locals.now)) }
 {
     let mut kinds = ValueTypes::new(alloc);
     let mut taken = FirstPlaces::new(alloc);

@@ -10,7 +10,10 @@ pub record Store (K V : Type 0) : Type 0 where
 -- it is stored as the pair of the two
 abbrev pub store_code : {K V : Type 0} → Coded K → Coded V → Coded (Store K V)
 store_code {K} {V} key value =
-    code_by (List (K × (V × ℕ)) × ℕ) (coded× (coded_list (coded× key (coded× value coded_ℕ))) coded_ℕ) (λ store. (store.entries, store.version)) (λ pair. record { entries = pair.0; version = pair.1 }) (λ _. refl)
+    code_by (List (K × (V × ℕ)) × ℕ)
+    (coded× (coded_list (coded× key (coded× value coded_ℕ))) coded_ℕ)
+    (λ store. (store.entries, store.version))
+    (λ pair. record { entries = pair.0; version = pair.1 }) (λ _. refl)
 
 -- an entry's key and value
 abbrev pub pair_of : {K V : Type 0} → K × (V × ℕ) → K × V

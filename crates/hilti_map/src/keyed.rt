@@ -1,4 +1,5 @@
-ghost use Rattle.std.specs.Prelude.{◌≡◌, ◌+◌, ◌^◌, ◌<◌, [], length, slice_get, is_ok, is_some, IfOk, IfErr, IfSome, IfNone, OnErr, None, if◌then◌else◌};
+ghost use Rattle.std.specs.Prelude.{◌≡◌, ◌+◌, ◌^◌, ◌<◌, [], length, slice_get, is_ok, is_some};
+ghost use Rattle.std.specs.Prelude.{IfOk, IfErr, IfSome, IfNone, OnErr, None, if◌then◌else◌};
 ghost use Rattle.std.specs.Option.{option_copied, option_map};
 ghost use Rattle.std.specs.Map.{keys_of, lookup, lookup_key, remove_entry, set_value};
 ghost use Rattle.std.specs.Map.Iter.{deref_pair};
@@ -61,7 +62,8 @@ impl<K: Ord, V> Keyed<K, V> {
     /// The pair at a place, counted from 0 by rising keys; `None` exactly past the end. It passes over the pairs before
     /// it, so it takes time in proportion to the place.
     pub fn at(&self, place: u64) -> Option<(&K, &V)>
-        ensures { option_map deref_pair result ≡ option_map pair_of (slice_get self.now.entries place) }
+        ensures { option_map deref_pair result
+            ≡ option_map pair_of (slice_get self.now.entries place) }
     {
         match nth_entry(&self.entries, place as usize) {
             Some((key, held)) => Some((key, &held.0)),
@@ -71,7 +73,8 @@ impl<K: Ord, V> Keyed<K, V> {
 
     /// The value of a key; `None` exactly where the key is absent.
     pub fn get(&self, key: &K) -> Option<&V>
-        ensures { option_copied result ≡ option_map (λ held. held.0) (lookup (is_at (K.cmp key.now)) self.now.entries) }
+        ensures { option_copied result
+            ≡ option_map (λ held. held.0) (lookup (is_at (K.cmp key.now)) self.now.entries) }
     {
         match self.entries.get(key) {
             Some(held) => Some(&held.0),
@@ -81,7 +84,8 @@ impl<K: Ord, V> Keyed<K, V> {
 
     /// The stamp of a key; `None` exactly where the key is absent.
     pub fn stamp(&self, key: &K) -> Option<u64>
-        ensures { result ≡ option_map (λ held. held.1) (lookup (is_at (K.cmp key.now)) self.now.entries) }
+        ensures { result
+            ≡ option_map (λ held. held.1) (lookup (is_at (K.cmp key.now)) self.now.entries) }
     {
         match self.entries.get(key) {
             Some(held) => Some(held.1),
@@ -92,11 +96,14 @@ impl<K: Ord, V> Keyed<K, V> {
     /// Takes a key out; `None` exactly where it is absent, and nothing changes then.
     pub fn remove(&mut self, key: &K) -> Option<(K, V, u64)>
         requires { self.old.version < 2 ^ 63 }
-        ensures key { option_map (λ taken. taken.0) result ≡ lookup_key (is_at (K.cmp key.now)) self.old.entries }
-        ensures held { option_map (λ taken. (taken.1, taken.2)) result ≡ lookup (is_at (K.cmp key.now)) self.old.entries }
+        ensures key { option_map (λ taken. taken.0) result
+            ≡ lookup_key (is_at (K.cmp key.now)) self.old.entries }
+        ensures held { option_map (λ taken. (taken.1, taken.2)) result
+            ≡ lookup (is_at (K.cmp key.now)) self.old.entries }
         ensures entries { self.new.entries ≡ remove_entry (is_at (K.cmp key.now)) self.old.entries }
         ensures unchanged { IfNone result (self.new.entries ≡ self.old.entries) }
-        ensures version { self.new.version ≡ (if is_some result then self.old.version + 1 else self.old.version) }
+        ensures version { self.new.version
+            ≡ (if is_some result then self.old.version + 1 else self.old.version) }
     {
         match self.entries.remove_entry(key) {
             Some((key, (value, stamp))) => {
@@ -110,8 +117,11 @@ impl<K: Ord, V> Keyed<K, V> {
     /// Gives a key another stamp; false exactly where the key is absent. It is no change of the version.
     pub fn set_stamp(&mut self, key: &K, stamp: u64) -> bool
         ensures found { result ≡ is_some (lookup (is_at (K.cmp key.now)) self.old.entries) }
-        ensures stamped { IfSome (lookup (is_at (K.cmp key.now)) self.old.entries) (λ held. self.new.entries ≡ set_value (is_at (K.cmp key.now)) self.old.entries (held.0, stamp)) }
-        ensures absent { lookup (is_at (K.cmp key.now)) self.old.entries ≡ None → self.new.entries ≡ self.old.entries }
+        ensures stamped { IfSome (lookup (is_at (K.cmp key.now)) self.old.entries)
+            (λ held. self.new.entries
+            ≡ set_value (is_at (K.cmp key.now)) self.old.entries (held.0, stamp)) }
+        ensures absent { lookup (is_at (K.cmp key.now)) self.old.entries ≡ None
+            → self.new.entries ≡ self.old.entries }
         ensures version { self.new.version ≡ self.old.version }
     {
         match self.entries.get_mut(key) {
@@ -130,9 +140,13 @@ impl<K: Ord + Drop, V> Keyed<K, V> {
     /// absent key.
     pub fn insert(&mut self, key: K, value: V, stamp: u64) -> Result<Option<V>, (K, V, NoMemory)>
         requires { self.old.version < 2 ^ 63 }
-        ensures old { IfOk result (λ old. old ≡ option_map (λ held. held.0) (lookup (is_at (K.cmp key)) self.old.entries)) }
-        ensures entries { self.new.entries ≡ (if is_ok result then insert_entry K.cmp self.old.entries key (value, stamp) else self.old.entries) }
-        ensures version { self.new.version ≡ (if is_ok result then self.old.version + 1 else self.old.version) }
+        ensures old { IfOk result (λ old. old
+            ≡ option_map (λ held. held.0) (lookup (is_at (K.cmp key)) self.old.entries)) }
+        ensures entries { self.new.entries
+            ≡ (if is_ok result then insert_entry K.cmp self.old.entries key (value, stamp)
+            else self.old.entries) }
+        ensures version { self.new.version
+            ≡ (if is_ok result then self.old.version + 1 else self.old.version) }
         ensures absent { OnErr result (lookup (is_at (K.cmp key)) self.old.entries ≡ None) }
         ensures refused { IfErr result (λ refused. (refused.0 ≡ key) × (refused.1 ≡ value)) }
     {

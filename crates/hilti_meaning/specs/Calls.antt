@@ -1,5 +1,5 @@
--- Calls that nest, for every kind of frame. What a frame does next, and what it does with what its callee ended with,
--- are two functions that don't recurse; everything else follows from them.
+-- Calls that nest, for every kind of frame. What a frame does next, and what it does with what its
+-- callee ended with, are two functions that don't recurse; everything else follows from them.
 use Rattle.std.specs.Prelude.{ℕ, zero, suc, Bool, cond, List, [], ◌∷◌, ◌++◌}
 
 -- what a frame does next: it goes on, calls one callee and then more, or ends
@@ -13,7 +13,8 @@ pub data Back (F S R : Type 0) : Type 0 where
   On : (frame : F) (state : S) → Back F S R
   Out : (result : R) (state : S) → Back F S R
 
--- how a frame ends, with the state and the items on the way: with a result and the fuel left, or for want of fuel
+-- how a frame ends, with the state and the items on the way: with a result and the fuel left, or
+-- for want of fuel
 pub data Outcome (S R I : Type 0) : Type 0 where
   Ended : (result : R) (state : S) (left : ℕ) (trace : List I) → Outcome S R I
   Spent : (state : S) (trace : List I) → Outcome S R I
@@ -44,15 +45,19 @@ settle run (On frame st) left = run frame st left
 settle run (Out r st) left = Ended r st left []
 
 -- a callee ended: the next one runs, or the caller goes on
-abbrev pub finish : {F S R I : Type 0} → (R → Bool) → Running F S R I → List F → (R → S → Back F S R) → R → S → ℕ → Outcome S R I
+abbrev pub finish : {F S R I : Type 0} → (R → Bool) → Running F S R I → List F
+    → (R → S → Back F S R) → R → S → ℕ → Outcome S R I
 finish continues run [] back r st left = settle run (back r st) left
 finish continues run (next ∷ more) back r st left =
-    cond (continues r) (then_do (run next st left) (finish continues run more back)) (settle run (back r st) left)
+    cond (continues r) (then_do (run next st left) (finish continues run more back))
+    (settle run (back r st) left)
 
 -- the rest of a frame, after what it does next
-abbrev pub follow : {F S R I : Type 0} → Language F S R I → Running F S R I → Action F S R I → ℕ → Outcome S R I
+abbrev pub follow : {F S R I : Type 0} → Language F S R I → Running F S R I → Action F S R I → ℕ
+    → Outcome S R I
 follow l run (Go items frame st) fuel = emit items (run frame st fuel)
-follow l run (Call first more frame st) fuel = then_do (run first st fuel) (finish l.continues run more (l.resume frame))
+follow l run (Call first more frame st) fuel =
+    then_do (run first st fuel) (finish l.continues run more (l.resume frame))
 follow l run (Leave r st) fuel = Ended r st fuel []
 
 -- a frame to its end in at most so many steps: each takes 1 fuel
@@ -71,10 +76,12 @@ pub record Waiting (F S R : Type 0) : Type 0 where
   pub back : R → S → Back F S R
 
 -- frames that wait for each other, the last for what ended so, go on
-abbrev pub resumes : {F S R I : Type 0} → Language F S R I → List (Waiting F S R) → Outcome S R I → Outcome S R I
+abbrev pub resumes : {F S R I : Type 0} → Language F S R I → List (Waiting F S R) → Outcome S R I
+    → Outcome S R I
 resumes l [] o = o
 resumes l (w ∷ below) o = then_do (resumes l below o) (finish l.continues (exec l) w.more w.back)
 
--- what a stack still has to do: its top frame, then each frame below it, the nearest last in the list
+-- what a stack still has to do: its top frame, then each frame below it, the nearest last in the
+-- list
 unfoldable pub rest : {F S R I : Type 0} → Language F S R I → List (Waiting F S R) → Running F S R I
 rest l below top st fuel = resumes l below (exec l top st fuel)

@@ -1,5 +1,6 @@
 -- What a call does on a thread, after the calls that the thread ran before: its segments.
-use Rattle.std.specs.Prelude.{ℕ, Bool, true, false, List, [], ◌∷◌, ◌++◌, map, position, Option, Some, None, slice_get, codes}
+use Rattle.std.specs.Prelude.{ℕ, Bool, true, false, List, [], ◌∷◌, ◌++◌, map, position, Option}
+use Rattle.std.specs.Prelude.{Some, None, slice_get, codes}
 use Rattle.std.specs.Str.{bytes_eq}
 use Rattle.hilti_base.specs.declared.names.FnId.{FnId}
 use Rattle.hilti_tree.specs.declared.call.Call.{Call}
@@ -11,7 +12,8 @@ use Rattle.hilti_core.specs.declared.pieces.Item.TheVariants.{Line}
 use Rattle.hilti_core.specs.declared.pieces.Segment.{Segment}
 use Rattle.hilti_core.specs.declared.pieces.End.TheVariants.{Yielded, Returned, OutOfFuel}
 use Rattle.hilti_frames.specs.declared.frames.Frame.{Frame}
-use Rattle.hilti_meaning.specs.Calls.{Back.Out, Outcome, Outcome.Ended, Outcome.Spent, Waiting, emit, rest}
+use Rattle.hilti_meaning.specs.Calls.{Back.Out, Outcome, Outcome.Ended, Outcome.Spent, Waiting}
+use Rattle.hilti_meaning.specs.Calls.{emit, rest}
 use Rattle.hilti_meaning.specs.State.{State, Result, Mark, Mark.Did, Mark.Cut}
 use Rattle.hilti_meaning.specs.Values.{of_tree}
 use Rattle.hilti_meaning.specs.Rows.{entry, language}
@@ -29,7 +31,8 @@ before item (segment ∷ more) = record { items = item ∷ segment.items; «end�
 abbrev pub segments_of : List Mark → List Segment → List Segment
 segments_of [] last = last
 segments_of (Did item ∷ marks) last = before item (segments_of marks last)
-segments_of (Cut st frame ∷ marks) last = record { items = []; «end» = Yielded } ∷ segments_of marks last
+segments_of (Cut st frame ∷ marks) last =
+    record { items = []; «end» = Yielded } ∷ segments_of marks last
 
 -- the line of a call that spent its fuel
 abbrev pub spent_line : List ℕ → List ℕ
@@ -37,8 +40,10 @@ spent_line name = codes "! out of fuel in " ++ name
 
 -- the segments of a call of this name
 abbrev pub closing : List ℕ → Outcome State Result Mark → List Segment
-closing name (Ended r st left trace) = segments_of trace (record { items = []; «end» = Returned } ∷ [])
-closing name (Spent st trace) = segments_of trace (record { items = Line (spent_line name) ∷ []; «end» = OutOfFuel } ∷ [])
+closing name (Ended r st left trace) =
+    segments_of trace (record { items = []; «end» = Returned } ∷ [])
+closing name (Spent st trace) =
+    segments_of trace (record { items = Line (spent_line name) ∷ []; «end» = OutOfFuel } ∷ [])
 
 -- the thread after it
 abbrev pub state_of : Outcome State Result Mark → State
@@ -65,7 +70,12 @@ init_of parts = init_at (position is_init parts.functions)
 
 -- a thread that ran nothing
 abbrev pub fresh : Parts → ℕ → State
-fresh parts number = record { number = number; globals = map (λ (g : Global). of_tree g.first) parts.globals; ran = false }
+fresh parts number =
+    record {
+      number = number;
+      globals = map (λ (g : Global). of_tree g.first) parts.globals;
+      ran = false;
+    }
 
 -- the call's own function
 abbrev pub called : Parts → Call → Frame
@@ -88,14 +98,17 @@ first_of parts true = None
 -- how a call ends on a thread in this state
 abbrev pub outcome : Parts → ℕ → State → Call → Outcome State Result Mark
 outcome parts fuel st call =
-    rest (language parts) (waits parts (first_of parts st.ran) call) (opens parts (first_of parts st.ran) call) (record st { ran = true }) fuel
+    rest (language parts) (waits parts (first_of parts st.ran) call)
+    (opens parts (first_of parts st.ran) call) (record st { ran = true }) fuel
 
 -- the thread after these calls
 abbrev pub state_after : Parts → ℕ → State → List Call → State
 state_after parts fuel st [] = st
-state_after parts fuel st (call ∷ more) = state_after parts fuel (state_of (outcome parts fuel st call)) more
+state_after parts fuel st (call ∷ more) =
+    state_after parts fuel (state_of (outcome parts fuel st call)) more
 
 -- the segments of a call on this thread, after the calls that it finished
 abbrev pub effect : Parts → ℕ → ℕ → List Call → Call → List Segment
 effect parts fuel number finished call =
-    closing (name_of parts call.function) (outcome parts fuel (state_after parts fuel (fresh parts number) finished) call)
+    closing (name_of parts call.function)
+    (outcome parts fuel (state_after parts fuel (fresh parts number) finished) call)

@@ -1,4 +1,5 @@
--- A thread between instructions, what a function ends with, and what a call leaves behind on its way.
+-- A thread between instructions, what a function ends with, and what a call leaves behind on its
+-- way.
 use Rattle.std.specs.Prelude.{ℕ, Bool, List, Option}
 use Rattle.hilti_core.specs.declared.pieces.Item.{Item}
 use Rattle.hilti_heap.specs.declared.value.Value.{Value}
@@ -16,7 +17,8 @@ pub record Result : Type 0 where
   pub target : Option Variable
   pub value : Option Value
 
--- something that others see, or the call is suspended: the thread's state and the frame that goes on
+-- something that others see, or the call is suspended: the thread's state and the frame that goes
+-- on
 pub data Mark : Type 0 where
   Did : (item : Item) → Mark
   Cut : (state : State) (frame : Frame) → Mark

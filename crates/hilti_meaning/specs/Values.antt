@@ -1,5 +1,6 @@
 -- Values: those of trees, those that variables begin with, and their texts.
-use Rattle.std.specs.Prelude.{ℕ, Bool, true, false, List, [], Option, Some, None, slice_get, slice_set, codes}
+use Rattle.std.specs.Prelude.{ℕ, Bool, true, false, List, [], Option, Some, None, slice_get}
+use Rattle.std.specs.Prelude.{slice_set, codes}
 use Rattle.std.specs.Fmt.{decimal}
 use Rattle.hilti_tree.specs.declared.tree.Tree.{Tree}
 use Rattle.hilti_tree.specs.declared.tree.Tree.TheVariants as trees

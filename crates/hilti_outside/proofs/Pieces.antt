@@ -9,7 +9,8 @@ Leaves read None all = ⊥
 Leaves read (Some rest) all = read ++ rest ≡ all
 
 -- what is written by two writes
-pub grows_more : (before between after : Option (List ℕ)) (front piece : List ℕ) → Grows before between front → Grows between after piece → Grows before after (front ++ piece)
+pub grows_more : {A : Type 0} (before between after : Option (List A)) (front piece : List A)
+    → Grows before between front → Grows between after piece → Grows before after (front ++ piece)
 grows_more before between None front piece g h = tt
 grows_more before None (Some c) front piece g h = absurd h
 grows_more None (Some b) (Some c) front piece g h = absurd g

@@ -1,5 +1,6 @@
 -- How a shelf lays out its files.
-use Rattle.std.specs.Prelude.{◌≡◌, ℕ, ◌<◌, ◌≤◌, List, [], length, drop, slice_index_or, Option, Some, None, fold}
+use Rattle.std.specs.Prelude.{◌≡◌, ℕ, ◌<◌, ◌≤◌, List, [], length, drop, slice_index_or, Option}
+use Rattle.std.specs.Prelude.{Some, None, fold}
 use Rattle.std.specs.FinMap.{empty, insert, get}
 use Rattle.hilti_outside.specs.Contents.{FileMap}
 use Rattle.hilti_outside.specs.declared.shelf.Entry.{Entry}
@@ -21,9 +22,11 @@ rest_at entries (Some spot) = drop spot.read (bytes_at entries spot.entry)
 -- a spot is in an entry, and not past its end
 abbrev pub IsWithin : List Entry → Option Spot → Type 0
 IsWithin entries None = Unit {0}
-IsWithin entries (Some spot) = (spot.entry < length entries) × (spot.read ≤ length (bytes_at entries spot.entry))
+IsWithin entries (Some spot) =
+    (spot.entry < length entries) × (spot.read ≤ length (bytes_at entries spot.entry))
 
 -- the file of a name is the entry at a place, and nowhere where there is none
 abbrev pub IsFoundAt : List Entry → List ℕ → Option ℕ → Type 0
 IsFoundAt entries name None = get (files_of entries) name ≡ None
-IsFoundAt entries name (Some at) = (at < length entries) × (get (files_of entries) name ≡ Some (bytes_at entries at))
+IsFoundAt entries name (Some at) =
+    (at < length entries) × (get (files_of entries) name ≡ Some (bytes_at entries at))

@@ -1,16 +1,18 @@
-ghost use Rattle.std.specs.Prelude.{◌≡◌, ℕ, ◌<◌, ◌≤◌, length, None, IfSome, OnErr};
+ghost use Rattle.std.specs.Prelude.{◌≡◌, ◌<◌, [], length, None, OnErr};
 ghost use Rattle.std.specs.Io.{ReadsAtMost};
-ghost use Rattle.hilti_outside.specs.Faults.{HasCause, Rose};
+ghost use Rattle.std.specs.Io.KnownBytes.{ReadConsumes};
+ghost use Rattle.hilti_outside.specs.Contents.{Holds};
+ghost use Rattle.hilti_outside.specs.Faults.{HasCause};
 ghost use Rattle.hilti_outside.specs.Fakes.{counted};
 
 use crate::count::one_more;
-use crate::files::{Failed, Files, RETRIES};
-use std::io::{ErrorKind, Read};
+use crate::files::{Failed, Files};
+use crate::interrupted;
 use std::marker::Model;
-use std::{fs, rt};
+use std::rt;
 
 /// Files of the system. A name is a path in UTF-8, and another one can't be opened. A call that is interrupted is
-/// tried again at most 16 times.
+/// tried again at most 16 times. What is unread of a file is told where its reader tells it.
 #[derive(Drop)]
 pub struct DiskFiles<R: rt::Files> {
     system: R,
@@ -19,17 +21,17 @@ pub struct DiskFiles<R: rt::Files> {
 }
 
 impl<R: rt::Files> Model for DiskFiles<R> {
-    ghost use Rattle.std.specs.Prelude.{ℕ};
+    ghost use Rattle.hilti_outside.specs.System.{SystemFiles, left_of};
 
-    ghost Value = { ℕ };
+    ghost Value = { SystemFiles };
 
-    ghost view = { λ a. a.faults };
+    ghost view = { λ a. record { rest = left_of R.File.remaining a.current; faults = a.faults } };
 }
 
 impl<R: rt::Files> DiskFiles<R> {
     /// The files of the system, as a `main` has it: `DiskFiles::new(&rt)`.
     pub fn new(system: R) -> DiskFiles<R>
-        ensures { result ≡ 0 }
+        ensures { result ≡ record { rest = Some []; faults = 0 } }
     {
         DiskFiles {
             system,
@@ -42,22 +44,29 @@ impl<R: rt::Files> DiskFiles<R> {
 impl<R: rt::Files> Files for DiskFiles<R> {
     ghost files = { λ _. None };
 
-    ghost rest = { λ _. None };
+    ghost rest = { λ s. s.rest };
 
-    ghost faults = { λ faults. faults };
+    ghost opened = { λ _. None };
+
+    ghost faults = { λ s. s.faults };
 
     ghost told = { λ s all e. Prim.cc };
 
     fn open_file(&mut self, name: &[u8]) -> Result<(), Failed>
-        ensures cause { HasCause self.old self.new result }
-        ensures faults { OnErr result (self.new ≡ counted self.old) }
+        ensures err { OnErr result (Holds self.new.rest []) }
+        ensures cause { HasCause self.old.faults self.new.faults result }
+        ensures faults { OnErr result (self.new.faults ≡ counted self.old.faults) }
     {
-        self.current = opened(&self.system, name);
-        if self.current.is_some() {
-            Ok(())
-        } else {
-            self.faults = one_more(self.faults);
-            Err(Failed)
+        self.current = None;
+        match opened(&self.system, name) {
+            Ok(file) => {
+                self.current = Some(file);
+                Ok(())
+            }
+            Err(error) => {
+                self.faults = one_more(self.faults);
+                Err(error)
+            }
         }
     }
 
@@ -65,45 +74,27 @@ impl<R: rt::Files> Files for DiskFiles<R> {
     fn read(&mut self, into: &mut [u8]) -> Result<usize, Failed>
         requires { 0 < length into.old }
         ensures count { ReadsAtMost result into.new }
-        ensures cause { HasCause self.old self.new result }
-        ensures faults { OnErr result (self.new ≡ counted self.old) }
+        ensures moved { ReadConsumes self.old.rest self.new.rest result into.new }
+        ensures cause { HasCause self.old.faults self.new.faults result }
+        ensures faults { OnErr result (self.new.faults ≡ counted self.old.faults) }
     {
         let Some(file) = &mut self.current else {
             return Ok(0);
         };
-        match read_some(file, into) {
-            Some(count) => Ok(count),
-            None => {
+        match interrupted::read(file, into) {
+            Ok(count) => Ok(count),
+            Err(error) => {
                 self.faults = one_more(self.faults);
-                Err(Failed)
+                Err(error)
             }
         }
     }
 }
 
-/// A file that is opened to be read, if the system opens it.
-fn opened<R: rt::Files>(system: &R, name: &[u8]) -> Option<R::File> {
-    let path = str::from_utf8(name).ok()?;
-    for _ in 0..=RETRIES {
-        match fs::open(system, path) {
-            Ok(file) => return Some(file),
-            Err(e) if e.kind() == ErrorKind::Interrupted => {}
-            Err(_) => return None,
-        }
+/// A file that is opened to be read, if its name is a path and the system opens it.
+fn opened<R: rt::Files>(system: &R, name: &[u8]) -> Result<R::File, Failed> {
+    match str::from_utf8(name) {
+        Ok(path) => interrupted::open(system, path),
+        Err(_) => Err(Failed),
     }
-    None
-}
-
-/// How many bytes one read moved to the front of `into`, if the system reads.
-fn read_some<F: Read>(file: &mut F, into: &mut [u8]) -> Option<usize>
-    ensures { IfSome result (λ n. n ≤ length into.new) }
-{
-    for _ in 0..=RETRIES {
-        match file.read(into) {
-            Ok(count) => return Some(count),
-            Err(e) if e.kind() == ErrorKind::Interrupted => {}
-            Err(_) => return None,
-        }
-    }
-    None
 }

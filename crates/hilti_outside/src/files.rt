@@ -1,8 +1,9 @@
-ghost use Rattle.std.specs.Prelude.{◌≡◌, ◌≢◌, ℕ, ◌<◌, ◌≤◌, List, [], length, Option, Some, IsSome, IfOk, OnOk, OnErr};
+ghost use Rattle.std.specs.Prelude.{◌≡◌, ◌≢◌, ℕ, ◌<◌, ◌≤◌, List, [], ◌∷◌, length, Option, Some};
+ghost use Rattle.std.specs.Prelude.{IsSome, IfOk, OnOk, OnErr};
 ghost use Rattle.std.specs.Io.{ReadsAtMost};
 ghost use Rattle.std.specs.Io.KnownBytes.{ReadConsumes};
 ghost use Rattle.hilti_outside.specs.Faults.{HasCause, Rose};
-ghost use Rattle.hilti_outside.specs.Contents.{FileMap, Holds, content};
+ghost use Rattle.hilti_outside.specs.Contents.{FileMap, Grows, Holds, WhereTold, content};
 ghost use Rattle.hilti_outside.specs.declared.files.FileFault.TheVariants as faults;
 
 use hilti_base::{Blob, NoMemory};
@@ -10,9 +11,6 @@ use std::alloc::Global;
 
 /// How many bytes `read_file` asks for at a time.
 const PIECE: usize = 16384;
-
-/// How many times a call to the system that was interrupted is tried again.
-pub const RETRIES: u32 = 16;
 
 /// A call to the outside failed. The count of faults of what was called says so too.
 #[derive(Clone, Copy, Debug, PartialEq, Eq)]
@@ -26,6 +24,9 @@ pub trait Files {
     /// The bytes of the current file that are still unread, none where no file is current; where that is told.
     ghost rest: { Self → Option (List ℕ) };
 
+    /// The names that were opened, one after another, also those that failed to open; where that is told.
+    ghost opened: { Self → Option (List (List ℕ)) };
+
     /// How many calls failed. It stays at `u64::MAX` once it is there.
     ghost faults: { Self → ℕ };
 
@@ -33,14 +34,17 @@ pub trait Files {
     /// can be opened. After `Failed` no file is current.
     fn open_file(&mut self, name: &[u8]) -> Result<(), Failed>
         ensures files { files self.new ≡ files self.old }
-        ensures ok { OnOk result ((all : FileMap) → files self.old ≡ Some all → rest self.new ≡ Some (content all name.now)) }
+        ensures ok { OnOk result
+            (WhereTold (files self.old) (λ all. rest self.new ≡ Some (content all name.now))) }
         ensures err { OnErr result (Holds (rest self.new) []) }
+        ensures opened { Grows (opened self.old) (opened self.new) (name.now ∷ []) }
         ensures cause { HasCause (faults self.old) (faults self.new) result };
 
     /// Moves bytes of the current file to the front of `into`, and says how many: 0 exactly where none is left.
     fn read(&mut self, into: &mut [u8]) -> Result<usize, Failed>
         requires { 0 < length into.old }
         ensures files { files self.new ≡ files self.old }
+        ensures opened { opened self.new ≡ opened self.old }
         ensures count { ReadsAtMost result into.new }
         ensures moved { ReadConsumes (rest self.old) (rest self.new) result into.new }
         ensures cause { HasCause (faults self.old) (faults self.new) result };
@@ -83,10 +87,14 @@ pub fn read_file<F: Files>(
     limit: usize,
 ) -> Result<Blob, FileFault>
     ensures files { F.files files.new ≡ F.files files.old }
-    ensures whole { IfOk result (λ bytes. (all : FileMap) → F.files files.old ≡ Some all → bytes ≡ content all name.now) }
+    ensures opened { Grows (F.opened files.old) (F.opened files.new) (name.now ∷ []) }
+    ensures whole { IfOk result
+        (λ bytes. WhereTold (F.files files.old) (λ all. bytes ≡ content all name.now)) }
     ensures within { IfOk result (λ bytes. length bytes ≤ limit) }
-    ensures too_long { result ≡ Err FileFault.TooLong → (all : FileMap) → F.files files.old ≡ Some all → limit < length (content all name.now) }
-    ensures failed { result ≡ Err FileFault.Failed → Rose (F.faults files.old) (F.faults files.new) }
+    ensures too_long { result ≡ Err FileFault.TooLong →
+        WhereTold (F.files files.old) (λ all. limit < length (content all name.now)) }
+    ensures failed { result ≡ Err FileFault.Failed
+        → Rose (F.faults files.old) (F.faults files.new) }
     ensures heard { result ≢ Err FileFault.Failed → F.faults files.new ≡ F.faults files.old }
 {
     files.open_file(name)?;

@@ -5,8 +5,10 @@
 mod count;
 mod disk_files;
 mod files;
+mod interrupted;
 mod mem_files;
 mod mem_sink;
+mod opened;
 mod out_sink;
 mod plan;
 mod shelf;

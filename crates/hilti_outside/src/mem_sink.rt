@@ -1,4 +1,6 @@
-ghost use Rattle.std.specs.Prelude.{◌≡◌, ◌↔◌, ◌⊎◌, ℕ, ◌+◌, ◌-◌, ◌<◌, ◌≤◌, [], ◌++◌, length, take, min, max, Option, Some, IfOk, OnOk, OnErr, IsErr, vec_len, vec_capacity};
+ghost use Rattle.std.specs.Prelude.{◌≡◌, ◌↔◌, ◌⊎◌, ℕ, ◌+◌, ◌-◌, ◌<◌, ◌≤◌, [], ◌++◌, length, take};
+ghost use Rattle.std.specs.Prelude.{min, max, Option, Some, IfOk, OnOk, OnErr, IsErr, vec_len};
+ghost use Rattle.std.specs.Prelude.{vec_capacity};
 ghost use Rattle.std.specs.List.{Contains};
 ghost use Rattle.std.specs.Io.{WritesAtMost};
 ghost use Rattle.hilti_outside.specs.Faults.{HasCause};
@@ -28,7 +30,14 @@ impl Model for MemSink {
 
     ghost Value = { PlannedSink };
 
-    ghost view = { λ a. record { written = a.kept.items; room = a.room; fails = a.plan.fails; calls = a.plan.calls; faults = a.plan.faults; chunk = a.chunk } };
+    ghost view = { λ a. record {
+      written = a.kept.items;
+      room = a.room;
+      fails = a.plan.fails;
+      calls = a.plan.calls;
+      faults = a.plan.faults;
+      chunk = a.chunk;
+    } };
 
     ghost invariant = { λ a. (1 ≤ a.chunk) × (vec_len a.kept + a.room ≤ vec_capacity a.kept) };
 }
@@ -38,7 +47,14 @@ impl MemSink {
     /// will fail.
     pub fn new(alloc: Global, chunk: usize, fails: Numbers) -> MemSink
         requires { 1 ≤ chunk }
-        ensures { result ≡ record { written = []; room = 0; fails = fails; calls = 0; faults = 0; chunk = chunk } }
+        ensures { result ≡ record {
+          written = [];
+          room = 0;
+          fails = fails;
+          calls = 0;
+          faults = 0;
+          chunk = chunk;
+        } }
     {
         MemSink {
             kept: Vec::new(alloc),
@@ -80,10 +96,13 @@ impl Sink for MemSink {
         ensures ok { IfOk result (λ n. self.new.written ≡ self.old.written ++ take n piece.now) }
         ensures err { OnErr result (self.new.written ≡ self.old.written) }
         ensures cause { HasCause self.old.faults self.new.faults result }
-        ensures most { IfOk result (λ n. n ≡ min (min self.old.chunk self.old.room) (length piece.now)) }
+        ensures most { IfOk result (λ n. n
+            ≡ min (min self.old.chunk self.old.room) (length piece.now)) }
         ensures room { IfOk result (λ n. self.new.room + n ≡ self.old.room) }
         ensures calls { self.new.calls ≡ counted self.old.calls }
-        ensures fails { IsErr result ↔ (Contains self.old.fails self.new.calls ⊎ (0 < length piece.now) × (self.old.room ≡ 0)) }
+        ensures fails { IsErr result ↔
+            (Contains self.old.fails self.new.calls
+            ⊎ (0 < length piece.now) × (self.old.room ≡ 0)) }
         ensures faults { OnErr result (self.new.faults ≡ counted self.old.faults) }
         ensures left { OnErr result (self.new.room ≡ self.old.room) }
         ensures planned { self.new.fails ≡ self.old.fails }

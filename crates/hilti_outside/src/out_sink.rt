@@ -1,72 +1,73 @@
-ghost use Rattle.std.specs.Prelude.{◌≡◌, ℕ, ◌<◌, ◌≤◌, length, None, IfSome, IfOk, OnErr};
+ghost use Rattle.std.specs.Prelude.{◌≡◌, ◌<◌, length, take, IfOk, OnErr};
 ghost use Rattle.std.specs.Io.{WritesAtMost};
+ghost use Rattle.hilti_outside.specs.Contents.{Grows};
 ghost use Rattle.hilti_outside.specs.Faults.{HasCause};
 ghost use Rattle.hilti_outside.specs.Fakes.{counted};
 
 use crate::count::one_more;
-use crate::files::{Failed, RETRIES};
+use crate::files::Failed;
+use crate::interrupted;
 use crate::sink::Sink;
-use std::io::ErrorKind;
+use std::io::Write;
 use std::marker::Model;
+use std::snapshot::Snapshot;
 
-/// What prints, as a sink, unbuffered: what a write took was handed to the system. A call that is interrupted is
-/// tried again at most 16 times.
+/// A writer as a sink, unbuffered: what a write took was handed to the writer. A call that is interrupted is tried
+/// again at most 16 times. What was written is told where the writer tells it from the start on.
 #[derive(Drop)]
-pub struct OutSink<P> {
-    out: P,
+pub struct OutSink<W: Write> {
+    out: W,
+    first: Snapshot<W>,
     faults: u64,
 }
 
-impl<P> Model for OutSink<P> {
-    ghost use Rattle.std.specs.Prelude.{ℕ};
+impl<W: Write> Model for OutSink<W> {
+    ghost use Rattle.hilti_outside.specs.System.{StaysTold, SystemSink, told_since};
 
-    ghost Value = { ℕ };
+    ghost Value = { SystemSink };
 
-    ghost view = { λ a. a.faults };
+    ghost view = { λ a. record {
+      written = told_since (W.contents a.first.value) (W.contents a.out);
+      faults = a.faults;
+    } };
+
+    ghost invariant = { λ a. StaysTold (W.contents a.first.value) (W.contents a.out) };
 }
 
-impl<P: Print> OutSink<P> {
-    /// Standard output, as a `main` has it: `OutSink::new(&rt)`.
-    pub fn new(out: P) -> OutSink<P>
-        ensures { result ≡ 0 }
+impl<W: Write> OutSink<W> {
+    /// Standard output, as a `main` has it: `OutSink::new(io::writer(&rt))`.
+    pub fn new(out: W) -> OutSink<W>
+        ensures { result ≡ record { written = W.contents out; faults = 0 } }
     {
-        OutSink { out, faults: 0 }
+        let first = Snapshot::of(&out);
+        OutSink {
+            out,
+            first,
+            faults: 0,
+        }
     }
 }
 
-impl<P: Print> Sink for OutSink<P> {
-    ghost written = { λ _. None };
+impl<W: Write> Sink for OutSink<W> {
+    ghost written = { λ s. s.written };
 
-    ghost faults = { λ faults. faults };
+    ghost faults = { λ s. s.faults };
 
+    #[tactic(auto, using(crate::proofs::Tries::stays_appended, crate::proofs::Tries::stays_kept, crate::proofs::Tries::grows_appended, crate::proofs::Tries::tells_kept))]
     fn write(&mut self, piece: &[u8]) -> Result<usize, Failed>
         ensures count { WritesAtMost result piece.now }
         ensures some { 0 < length piece.now → IfOk result (λ n. 0 < n) }
-        ensures cause { HasCause self.old self.new result }
-        ensures faults { OnErr result (self.new ≡ counted self.old) }
+        ensures ok { IfOk result (λ n. Grows self.old.written self.new.written (take n piece.now)) }
+        ensures err { OnErr result (self.new.written ≡ self.old.written) }
+        ensures cause { HasCause self.old.faults self.new.faults result }
+        ensures faults { OnErr result (self.new.faults ≡ counted self.old.faults) }
     {
-        match write_some(&self.out, piece) {
-            Some(count) => Ok(count),
-            None => {
+        match interrupted::write(&mut self.out, piece) {
+            Ok(count) => Ok(count),
+            Err(error) => {
                 self.faults = one_more(self.faults);
-                Err(Failed)
+                Err(error)
             }
         }
     }
-}
-
-/// How many bytes one write took, if the system writes, and takes something of a piece that isn't empty.
-fn write_some<P: Print>(out: &P, piece: &[u8]) -> Option<usize>
-    ensures count { IfSome result (λ n. n ≤ length piece.now) }
-    ensures some { 0 < length piece.now → IfSome result (λ n. 0 < n) }
-{
-    for _ in 0..=RETRIES {
-        match out.write_some(piece) {
-            Ok(0) if !piece.is_empty() => return None,
-            Ok(count) => return Some(count),
-            Err(e) if e.kind() == ErrorKind::Interrupted => {}
-            Err(_) => return None,
-        }
-    }
-    None
 }

@@ -16,6 +16,7 @@ pub struct Plan {
 }
 
 impl Plan {
+    /// No call was made, and those of these numbers will fail.
     pub fn new(fails: Numbers) -> Plan
         ensures { result ≡ record { fails = fails; calls = 0; faults = 0 } }
     {

@@ -38,12 +38,16 @@ impl Model for Shelf {
 
     ghost use Rattle.hilti_outside.specs.Shelf.{files_of, rest_at, IsWithin};
 
-    ghost view = { λ a. record { files = files_of a.entries.items; rest = rest_at a.entries.items a.current } };
+    ghost view = { λ a. record {
+      files = files_of a.entries.items;
+      rest = rest_at a.entries.items a.current;
+    } };
 
     ghost invariant = { λ a. IsWithin a.entries.items a.current };
 }
 
 impl Shelf {
+    /// No files.
     pub fn new(alloc: Global) -> Shelf
         ensures { result ≡ record { files = empty; rest = [] } }
     {
@@ -55,7 +59,8 @@ impl Shelf {
 
     /// Adds or replaces a file. The current one stays as it is.
     pub fn put(&mut self, name: &[u8], bytes: &[u8]) -> Result<(), NoMemory>
-        ensures ok { OnOk result (self.new ≡ record self.old { files = insert self.old.files name.now bytes.now }) }
+        ensures ok { OnOk result
+            (self.new ≡ record self.old { files = insert self.old.files name.now bytes.now }) }
         ensures err { OnErr result (self.new ≡ self.old) }
     {
         let alloc = *self.entries.allocator();
@@ -64,6 +69,7 @@ impl Shelf {
         self.entries.push(Entry { name, bytes })?;
         Ok(())
     }
+
     /// Makes the named file current, with all its bytes unread, and says whether there is one. Where there is none, no
     /// file is current.
     pub fn open(&mut self, name: &[u8]) -> bool

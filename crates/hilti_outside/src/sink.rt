@@ -17,7 +17,8 @@ pub trait Sink {
     fn write(&mut self, piece: &[u8]) -> Result<usize, Failed>
         ensures count { WritesAtMost result piece.now }
         ensures some { 0 < length piece.now → IfOk result (λ n. 0 < n) }
-        ensures ok { IfOk result (λ n. Grows (written self.old) (written self.new) (take n piece.now)) }
+        ensures ok { IfOk result
+            (λ n. Grows (written self.old) (written self.new) (take n piece.now)) }
         ensures err { OnErr result (written self.new ≡ written self.old) }
         ensures cause { HasCause (faults self.old) (faults self.new) result };
 }

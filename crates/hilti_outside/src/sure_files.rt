@@ -1,4 +1,5 @@
-ghost use Rattle.std.specs.Prelude.{◌≡◌, refl, ℕ, ◌<◌, ◌≤◌, [], length, min, Option, Some, None, IsOk, IfOk, OnOk, OnErr};
+ghost use Rattle.std.specs.Prelude.{◌≡◌, refl, ℕ, ◌<◌, ◌≤◌, [], length, min, Option, Some, None};
+ghost use Rattle.std.specs.Prelude.{IsOk, IfOk, OnOk, OnErr};
 ghost use Rattle.std.specs.FinMap.{empty, insert};
 ghost use Rattle.std.specs.Io.{ReadsAtMost};
 ghost use Rattle.std.specs.Io.KnownBytes.{ReadConsumes};
@@ -39,7 +40,8 @@ impl SureFiles {
 
     /// Adds or replaces a file. The current one stays as it is.
     pub fn put_file(&mut self, name: &[u8], bytes: &[u8]) -> Result<(), NoMemory>
-        ensures ok { OnOk result (self.new ≡ record self.old { files = insert self.old.files name.now bytes.now }) }
+        ensures ok { OnOk result
+            (self.new ≡ record self.old { files = insert self.old.files name.now bytes.now }) }
         ensures err { OnErr result (self.new ≡ self.old) }
     {
         self.shelf.put(name, bytes)
@@ -50,6 +52,8 @@ impl Files for SureFiles {
     ghost files = { λ s. Some s.files };
 
     ghost rest = { λ s. Some s.rest };
+
+    ghost opened = { λ _. None };
 
     ghost faults = { λ _. 0 };
 

@@ -1,4 +1,6 @@
-ghost use Rattle.std.specs.Prelude.{◌≡◌, ◌==◌, ℕ, ◌+◌, ◌-◌, ◌^◌, ◌<◌, ◌≤◌, [], ◌++◌, length, take, min, Option, Some, None, if◌then◌else◌, IfOk, OnOk, OnErr, IsOk, vec_len, vec_capacity};
+ghost use Rattle.std.specs.Prelude.{◌≡◌, ◌==◌, ℕ, ◌+◌, ◌-◌, ◌^◌, ◌<◌, ◌≤◌, [], ◌++◌, length, take};
+ghost use Rattle.std.specs.Prelude.{min, Option, Some, None, if◌then◌else◌, IfOk, OnOk, OnErr};
+ghost use Rattle.std.specs.Prelude.{IsOk, vec_len, vec_capacity};
 ghost use Rattle.std.specs.Io.{WritesAtMost};
 ghost use Rattle.hilti_outside.specs.Faults.{HasCause};
 ghost use Rattle.hilti_outside.specs.Contents.{Grows};
@@ -65,10 +67,14 @@ impl Sink for SureSink {
     fn write(&mut self, piece: &[u8]) -> Result<usize, Failed>
         ensures count { WritesAtMost result piece.now }
         ensures whole { result ≡ Ok (length piece.now) }
-        ensures ok { Grows (told_where (self.old.lost == 0) self.old.kept) (told_where (self.new.lost == 0) self.new.kept) piece.now }
+        ensures ok { Grows
+            (told_where (self.old.lost == 0) self.old.kept)
+            (told_where (self.new.lost == 0) self.new.kept)
+            piece.now }
         ensures kept { self.new.kept ≡ self.old.kept ++ take self.old.room piece.now }
         ensures room { self.new.room ≡ self.old.room - length piece.now }
-        ensures lost { self.new.lost ≡ min (self.old.lost + (length piece.now - self.old.room)) (2 ^ 64 - 1) }
+        ensures lost { self.new.lost ≡
+            min (self.old.lost + (length piece.now - self.old.room)) (2 ^ 64 - 1) }
     {
         let count = self.room.min(piece.len());
         if self.kept.extend_from_slice(&piece[..count]).is_err() {

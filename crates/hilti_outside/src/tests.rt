@@ -1,10 +1,8 @@
 use super::*;
 use hilti_base::{NoMemory, Numbers};
 use std::alloc::Global;
-use std::cell::Cell;
-use std::fmt::Display;
 use std::fs;
-use std::io::{self, ErrorKind};
+use std::io::{self, ErrorKind, Read, Write};
 use std::test::Fail;
 
 fn numbers(alloc: Global, items: &[u64]) -> Result<Numbers, NoMemory> {
@@ -15,29 +13,40 @@ fn numbers(alloc: Global, items: &[u64]) -> Result<Numbers, NoMemory> {
     Ok(all)
 }
 
-/// Prints nothing, and is interrupted first.
+/// Is interrupted so often, and then reads and writes a byte at a time.
 #[derive(Drop)]
 struct Interrupted {
-    left: Cell<u32>,
+    left: u32,
 }
 
-impl Print for Interrupted {
-    fn print<D: Display + Drop>(&self, _value: D) -> io::Result<()> {
-        Ok(())
+impl Interrupted {
+    /// Whether this call is interrupted.
+    fn interrupts(&mut self) -> bool {
+        let interrupts = self.left > 0;
+        self.left = self.left.saturating_sub(1);
+        interrupts
     }
+}
 
-    fn println<D: Display + Drop>(&self, _value: D) -> io::Result<()> {
-        Ok(())
-    }
-
-    fn write_all(&self, _bytes: &[u8]) -> io::Result<()> {
-        match self.left.get() {
-            0 => Ok(()),
-            left => {
-                self.left.set(left - 1);
-                Err(io::Error::from(ErrorKind::Interrupted))
-            }
+impl Read for Interrupted {
+    fn read(&mut self, buf: &mut [u8]) -> io::Result<usize> {
+        if self.interrupts() {
+            return Err(io::Error::from(ErrorKind::Interrupted));
         }
+        Ok(buf.len().min(1))
+    }
+}
+
+impl Write for Interrupted {
+    fn write(&mut self, buf: &[u8]) -> io::Result<usize> {
+        if self.interrupts() {
+            return Err(io::Error::from(ErrorKind::Interrupted));
+        }
+        Ok(buf.len().min(1))
+    }
+
+    fn flush(&mut self) -> io::Result<()> {
+        Ok(())
     }
 }
 
@@ -78,6 +87,8 @@ fn the_planned_reads_fail(rt: HostRuntime) -> Result<(), Fail> {
     assert_eq!(rt; files.read(&mut into), Err(Failed), "call 3");
     assert_eq!(rt; files.open_file(b"a"), Err(Failed), "call 4");
     assert_eq!(rt; files.read(&mut into), Ok(0), "no file is current");
+    let opened = files.opened().ok_or("no names")?;
+    assert_eq!(rt; opened.len(), 2);
     Ok(())
 }
 
@@ -146,16 +157,23 @@ fn files_of_the_system_are_read(rt: HostRuntime) -> Result<(), Fail> {
 }
 
 #[test]
-fn an_interrupted_write_is_tried_again_16_times(rt: HostRuntime) {
-    for (interrupts, written) in [(0, Ok(())), (16, Ok(())), (17, Err(Failed))] {
-        let out = Interrupted {
-            left: Cell::new(interrupts),
-        };
-        let mut sink = OutSink::new(&out);
+fn an_interrupted_call_is_tried_again_16_times(rt: HostRuntime) {
+    for (left, read, written) in [
+        (0, Ok(1), Ok(())),
+        (16, Ok(1), Ok(())),
+        (17, Err(Failed), Err(Failed)),
+    ] {
+        let mut into = [0; 2];
+        assert_eq!(rt;
+            interrupted::read(&mut Interrupted { left }, &mut into),
+            read,
+            "{left} interrupts"
+        );
+        let mut sink = OutSink::new(Interrupted { left });
         assert_eq!(rt;
             write_all(&mut sink, b"hello"),
             written,
-            "{interrupts} interrupts"
+            "{left} interrupts"
         );
     }
 }

@@ -1,10 +1,12 @@
 -- Fields of packet bytes.
-use Rattle.std.specs.Prelude.{◌≡◌, ℕ, ◌+◌, ◌-◌, ◌*◌, ◌/◌, ◌%◌, ◌^◌, ◌<◌, ◌≤◌, List, take, drop, Option, Some, None, true, false}
+use Rattle.std.specs.Prelude.{ℕ, ◌+◌, ◌-◌, ◌/◌, ◌%◌, ◌^◌, ◌<◌, ◌≤◌, List, take, drop, Option, Some, None, true, false}
 use Rattle.byteorder.specs.Endian.{big_number, little_number}
+use Rattle.hilti_addr.specs.Masks.{mapped}
 use Rattle.hilti_overlay.specs.declared.field.Form.{Form}
 use Rattle.hilti_overlay.specs.declared.field.Form.TheVariants.{U8, U16Big, U32Big, U64Big, U16Little, U32Little, U64Little, Ipv4, PortTcp, PortUdp, Bytes}
 use Rattle.hilti_overlay.specs.declared.field.Scalar.{Scalar}
 use Rattle.hilti_overlay.specs.declared.field.Scalar.TheVariants as scalars
+use Rattle.hilti_overlay.specs.declared.field.Unpack.{Unpack}
 
 -- the bytes of a form
 abbrev pub size_of : Form → ℕ
@@ -50,11 +52,20 @@ value_of U64Big bits at bytes = scalars.Int (bits_in bits (big_number 8 bytes))
 value_of U16Little bits at bytes = scalars.Int (bits_in bits (little_number 2 bytes))
 value_of U32Little bits at bytes = scalars.Int (bits_in bits (little_number 4 bytes))
 value_of U64Little bits at bytes = scalars.Int (bits_in bits (little_number 8 bytes))
-value_of Ipv4 bits at bytes = scalars.Addr (0xffff * 2 ^ 32 + big_number 4 bytes)
+value_of Ipv4 bits at bytes = scalars.Addr (mapped (big_number 4 bytes))
 value_of PortTcp bits at bytes = scalars.Port (big_number 2 bytes) false
 value_of PortUdp bits at bytes = scalars.Port (big_number 2 bytes) true
 value_of (Bytes n) bits at bytes = scalars.Range at n
 
--- the value of a field at a place of a piece
-abbrev pub field_value : Form → Option (ℕ × ℕ) → ℕ → List ℕ → Scalar
-field_value form bits at piece = value_of form bits at (take (size_of form) (drop at piece))
+-- where a field begins in a piece, and where it ends
+abbrev pub start_of : Unpack → ℕ → ℕ
+start_of field from = from + field.offset
+
+abbrev pub end_of : Unpack → ℕ → ℕ
+end_of field from = start_of field from + size_of field.form
+
+-- the value of a field of a piece
+abbrev pub field_value : Unpack → List ℕ → ℕ → Scalar
+field_value field piece from =
+    value_of field.form field.bits (start_of field from)
+    (take (size_of field.form) (drop (start_of field from) piece))

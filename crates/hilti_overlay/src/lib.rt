@@ -3,6 +3,7 @@
 #![tactic(auto)]
 
 mod field;
+pub mod laws;
 #[cfg(test)]
 mod tests;
 mod unpack;

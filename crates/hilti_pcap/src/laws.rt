@@ -5,5 +5,6 @@ ghost use Rattle.hilti_pcap.specs.Capture.{HasPackets};
 
 /// A capture has one list of packets at most.
 pub fn one_reading()
-    ensures { (capture : List ℕ) (packets others : List Packet) → HasPackets capture packets → HasPackets capture others → packets ≡ others }
+    ensures { (capture : List ℕ) (packets others : List Packet) → HasPackets capture packets
+        → HasPackets capture others → packets ≡ others }
 {}

@@ -1,4 +1,5 @@
-ghost use Rattle.std.specs.Prelude.{◌≡◌, ℕ, ◌+◌, ◌*◌, ◌^◌, ◌≤◌, ◌<◌, ◌++◌, length, List, Err, IfOk, IsNone, IfSome};
+ghost use Rattle.std.specs.Prelude.{◌≡◌, ℕ, ◌+◌, ◌*◌, ◌^◌, ◌≤◌, ◌<◌, ◌++◌, length, List, Err, IfOk};
+ghost use Rattle.std.specs.Prelude.{IsNone, IfSome};
 ghost use Rattle.std.specs.Int.{to_le_bytes, w32};
 ghost use Rattle.hilti_pcap.specs.declared.packet.Packet.{Packet};
 ghost use Rattle.hilti_pcap.specs.declared.read.LeFault.TheVariants as le_faults;
@@ -54,7 +55,8 @@ struct Record<'a> {
 /// before memory is taken; a fault in a record is met after the records before it have taken theirs.
 pub fn read_le(alloc: Global, capture: &[u8]) -> Result<Packets, LeFault>
     ensures packets { IfOk result (λ packets. HasPackets capture.now packets) }
-    ensures not_yet { result ≡ Err LeFault.NotYet → (packets : List Packet) → ¬ (HasPackets capture.now packets) }
+    ensures not_yet { result ≡ Err LeFault.NotYet → (packets : List Packet)
+        → ¬ (HasPackets capture.now packets) }
 {
     if capture.len() > MOST_BYTES {
         return Err(LeFault::NotYet);
@@ -69,7 +71,8 @@ pub fn read_le(alloc: Global, capture: &[u8]) -> Result<Packets, LeFault>
 fn read_records(alloc: Global, records: &[u8]) -> Result<Packets, LeFault>
     ensures read { IfOk result (λ packets. AreRecords packets records.now) }
     ensures few { IfOk result (λ packets. length packets ≤ 1000000) }
-    ensures not_yet { result ≡ Err LeFault.NotYet → (packets : List Packet) → AreRecords packets records.now → ¬ (length packets ≤ 1000000) }
+    ensures not_yet { result ≡ Err LeFault.NotYet → (packets : List Packet)
+        → AreRecords packets records.now → ¬ (length packets ≤ 1000000) }
 {
     let mut packets = Packets::new(alloc);
     let mut rest = records;
@@ -92,8 +95,10 @@ fn read_records(alloc: Global, records: &[u8]) -> Result<Packets, LeFault>
 
 // What stands behind the header; `None` where no header stands at the front.
 fn behind_header(capture: &[u8]) -> Option<&[u8]>
-    ensures none { IsNone result → (header records : List ℕ) → capture.now ≡ header ++ records → ¬ (IsHeader header) }
-    ensures some { IfSome result (λ records. (header : List ℕ) × (capture.now ≡ header ++ records.now) × IsHeader header) }
+    ensures none { IsNone result → (header records : List ℕ) → capture.now ≡ header ++ records
+        → ¬ (IsHeader header) }
+    ensures some { IfSome result (λ records. (header : List ℕ)
+        × (capture.now ≡ header ++ records.now) × IsHeader header) }
 {
     let (header, records) = capture.split_at_checked(HEADER_BYTES)?;
     if header.starts_with(&HEADER_BEGINNING) {
@@ -105,8 +110,10 @@ fn behind_header(capture: &[u8]) -> Option<&[u8]>
 
 // The record at the front; `None` where no record stands there.
 fn split_record(bytes: &[u8]) -> Option<Record<'_>>
-    ensures none { IsNone result → (front rest : List ℕ) (packet : Packet) → bytes.now ≡ front ++ rest → ¬ (IsRecord front packet) }
-    ensures some { IfSome result (λ found. (front : List ℕ) × (bytes.now ≡ front ++ found.rest.now) × IsRecord front (record { time = found.time; bytes = found.bytes.now })) }
+    ensures none { IsNone result → (front rest : List ℕ) (packet : Packet)
+        → bytes.now ≡ front ++ rest → ¬ (IsRecord front packet) }
+    ensures some { IfSome result (λ found. (front : List ℕ) × (bytes.now ≡ front ++ found.rest.now)
+        × IsRecord front (record { time = found.time; bytes = found.bytes.now })) }
 {
     let (seconds, rest) = split_u32(bytes)?;
     let (micros, rest) = split_u32(rest)?;

@@ -1,5 +1,6 @@
 -- The texts of numbers, times and bytes.
-use Rattle.std.specs.Prelude.{ℕ, ◌+◌, ◌-◌, ◌/◌, ◌%◌, ◌==◌, ◌||◌, List, [], ◌∷◌, ◌++◌, length, replicate, nat_lt, codes, if◌then◌else◌}
+use Rattle.std.specs.Prelude.{ℕ, ◌+◌, ◌-◌, ◌/◌, ◌%◌, ◌==◌, ◌||◌, List, [], ◌∷◌, ◌++◌, length}
+use Rattle.std.specs.Prelude.{replicate, nat_lt, codes, if◌then◌else◌}
 use Rattle.std.specs.Fmt.{decimal}
 use Rattle.std.specs.List.{flat_map}
 
@@ -15,11 +16,13 @@ moment_text nanos = decimal (nanos / 1000000000) ++ codes "." ++ nine_digits_of 
 abbrev pub hex_digit_of : ℕ → ℕ
 hex_digit_of value = if nat_lt value 10 then 48 + value else 97 + (value - 10)
 
--- quotes and backslashes behind a backslash, other printable bytes of ASCII as they are, the rest as two hexadecimal digits
+-- quotes and backslashes behind a backslash, other printable bytes of ASCII as they are, the rest
+-- as two hexadecimal digits
 unfoldable pub byte_text : ℕ → List ℕ
 byte_text byte =
     if byte == 34 || byte == 92 then 92 ∷ byte ∷ []
-    else (if nat_lt byte 32 || nat_lt 126 byte then codes "\\x" ++ hex_digit_of (byte / 16) ∷ hex_digit_of (byte % 16) ∷ []
+    else (if nat_lt byte 32 || nat_lt 126 byte then codes "\\x"
+    ++ hex_digit_of (byte / 16) ∷ hex_digit_of (byte % 16) ∷ []
     else byte ∷ [])
 
 abbrev pub escaped_text : List ℕ → List ℕ

@@ -1,5 +1,6 @@
 ghost use Rattle.std.specs.Prelude.{◌≡◌, ◌++◌, ◌<◌, OnOk, decimal};
-ghost use Rattle.hilti_print.specs.Texts.{moment_text, escaped_text, byte_text, hex_digit_of, nine_digits_of};
+ghost use Rattle.hilti_print.specs.Texts.{moment_text, escaped_text, byte_text, hex_digit_of};
+ghost use Rattle.hilti_print.specs.Texts.{nine_digits_of};
 
 use hilti_base::{Blob, NoMemory};
 use itoa::Buffer;

@@ -39,7 +39,8 @@ IsLiteral kind _ = ⊥
 -- the type of a variable that is there
 abbrev pub variable_kind : Parts → Function → Variable → Option ValueType
 variable_kind parts function (variables.Slot n) = slice_get function.slots n
-variable_kind parts function (variables.Global n) = option_map (λ (g : Global). g.kind) (slice_get parts.globals n)
+variable_kind parts function (variables.Global n) =
+    option_map (λ (g : Global). g.kind) (slice_get parts.globals n)
 
 -- an operand that gives a value: a variable with its type, or a literal of its type
 abbrev pub IsGiven : Parts → Function → Operand → Type 0
@@ -54,7 +55,8 @@ given_kind (operands.Literal kind value) = Some kind
 given_kind _ = None
 
 -- an operand that gives a value of a type
-pub record Gives (parts : Parts) (function : Function) (kind : ValueType) (operand : Operand) : Type 0 where
+pub record Gives (parts : Parts) (function : Function) (kind : ValueType)
+    (operand : Operand) : Type 0 where
   pub given : IsGiven parts function operand
   pub of_kind : given_kind operand ≡ Some kind
 

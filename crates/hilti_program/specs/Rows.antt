@@ -1,5 +1,6 @@
 -- The rule of each instruction: its operands, and the type of its target.
-use Rattle.std.specs.Prelude.{◌≡◌, ℕ, ◌≤◌, ◌<◌, List, [], ◌∷◌, length, take, slice_get, Option, Some, None, IfSome, IsSomeAnd, Bool, true, false}
+use Rattle.std.specs.Prelude.{◌≡◌, ℕ, ◌≤◌, ◌<◌, List, [], ◌∷◌, length, take, slice_get, Option}
+use Rattle.std.specs.Prelude.{Some, None, IfSome, IsSomeAnd, Bool, true, false}
 use Rattle.std.specs.List.{All}
 use Rattle.hilti_types.specs.declared.value_type.ValueType.{ValueType}
 use Rattle.hilti_types.specs.declared.value_type.ValueType.TheVariants as types
@@ -44,16 +45,20 @@ IsAssign parts function kind items = IsSomeAnd kind (λ t. Give parts function (
 
 -- `select c a b`
 abbrev pub IsSelect : Parts → Function → Option ValueType → List Operand → Type 0
-IsSelect parts function kind items = IsSomeAnd kind (λ t. Give parts function (types.Bool ∷ t ∷ t ∷ []) items)
+IsSelect parts function kind items =
+    IsSomeAnd kind (λ t. Give parts function (types.Bool ∷ t ∷ t ∷ []) items)
 
 -- `print a1 .. an`, of at most 3 values
-pub record IsPrint (parts : Parts) (function : Function) (kind : Option ValueType) (items : List Operand) : Type 0 where
+pub record IsPrint (parts : Parts) (function : Function) (kind : Option ValueType)
+    (items : List Operand) : Type 0 where
   pub no_target : kind ≡ None
   pub few : length items ≤ 3
   pub given : All (IsGiven parts function) items
 
--- arguments of the types of a function's parameters, and a target, if there is one, of the type of its result
-pub record Calls (parts : Parts) (function callee : Function) (kind : Option ValueType) (arguments : List Operand) : Type 0 where
+-- arguments of the types of a function's parameters, and a target, if there is one, of the type of
+-- its result
+pub record Calls (parts : Parts) (function callee : Function) (kind : Option ValueType)
+    (arguments : List Operand) : Type 0 where
   pub arguments_fit : Give parts function (take callee.params callee.slots) arguments
   pub result_fits : IfSome kind (λ t. callee.result ≡ Some t)
 
@@ -72,7 +77,8 @@ IsJump function kind _ = ⊥
 -- `if.else c @a @b`
 abbrev pub IsIfElse : Parts → Function → Option ValueType → List Operand → Type 0
 IsIfElse parts function kind (condition ∷ first ∷ second ∷ []) =
-    (kind ≡ None) × Gives parts function types.Bool condition × IsBlockOf function first × IsBlockOf function second
+    (kind ≡ None) × Gives parts function types.Bool condition × IsBlockOf function first
+    × IsBlockOf function second
 IsIfElse parts function kind _ = ⊥
 
 -- `return.void`
@@ -81,23 +87,28 @@ IsReturnVoid function kind items = (kind ≡ None) × (items ≡ []) × (functio
 
 -- `return.result x`
 abbrev pub IsReturnResult : Parts → Function → Option ValueType → List Operand → Type 0
-IsReturnResult parts function kind items = (kind ≡ None) × IsSomeAnd function.result (λ t. Give parts function (t ∷ []) items)
+IsReturnResult parts function kind items =
+    (kind ≡ None) × IsSomeAnd function.result (λ t. Give parts function (t ∷ []) items)
 
 -- `bool.and a b` and `bool.or a b`
 abbrev pub IsBoolPair : Parts → Function → Option ValueType → List Operand → Type 0
-IsBoolPair parts function kind items = (kind ≡ Some types.Bool) × Give parts function (types.Bool ∷ types.Bool ∷ []) items
+IsBoolPair parts function kind items =
+    (kind ≡ Some types.Bool) × Give parts function (types.Bool ∷ types.Bool ∷ []) items
 
 -- `bool.not a`
 abbrev pub IsBoolNot : Parts → Function → Option ValueType → List Operand → Type 0
-IsBoolNot parts function kind items = (kind ≡ Some types.Bool) × Give parts function (types.Bool ∷ []) items
+IsBoolNot parts function kind items =
+    (kind ≡ Some types.Bool) × Give parts function (types.Bool ∷ []) items
 
 -- `int.add a b`
 abbrev pub IsIntAdd : Parts → Function → Option ValueType → List Operand → Type 0
-IsIntAdd parts function kind items = (kind ≡ Some int64) × Give parts function (int64 ∷ int64 ∷ []) items
+IsIntAdd parts function kind items =
+    (kind ≡ Some int64) × Give parts function (int64 ∷ int64 ∷ []) items
 
 -- `int.lt a b`
 abbrev pub IsIntLess : Parts → Function → Option ValueType → List Operand → Type 0
-IsIntLess parts function kind items = (kind ≡ Some types.Bool) × Give parts function (int64 ∷ int64 ∷ []) items
+IsIntLess parts function kind items =
+    (kind ≡ Some types.Bool) × Give parts function (int64 ∷ int64 ∷ []) items
 
 -- the rule of a mnemonic; those that aren't named have none yet
 abbrev pub IsRow : Parts → Function → Op → Option ValueType → List Operand → Type 0

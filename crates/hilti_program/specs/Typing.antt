@@ -1,5 +1,6 @@
 -- Typing: which parts make a program.
-use Rattle.std.specs.Prelude.{◌≡◌, ℕ, ◌+◌, ◌≤◌, ◌<◌, ◌^◌, List, [], ◌∷◌, length, take, slice_get, position, Option, Some, None, IfSome, IsSomeAnd, codes}
+use Rattle.std.specs.Prelude.{◌≡◌, ℕ, ◌+◌, ◌≤◌, ◌<◌, ◌^◌, List, [], ◌∷◌, length, take, slice_get}
+use Rattle.std.specs.Prelude.{position, Option, Some, None, IfSome, IsSomeAnd, codes}
 use Rattle.std.specs.List.{All}
 use Rattle.hilti_types.specs.declared.value_type.ValueType.{ValueType}
 use Rattle.hilti_types.specs.declared.value_type.ValueType.TheVariants as types
@@ -15,17 +16,21 @@ use Rattle.hilti_program.specs.Rows.{IsRow, is_ending}
 -- the type of a target: `None` without one
 abbrev pub HasTarget : Parts → Function → Option Variable → Option ValueType → Type 0
 HasTarget parts function None kind = kind ≡ None
-HasTarget parts function (Some v) kind = IsSomeAnd kind (λ t. variable_kind parts function v ≡ Some t)
+HasTarget parts function (Some v) kind =
+    IsSomeAnd kind (λ t. variable_kind parts function v ≡ Some t)
 
--- an instruction whose target is a variable of the type that it names, and that keeps the rule of its mnemonic
-pub record IsInstruction (parts : Parts) (function : Function) (instruction : Instruction) : Type 0 where
+-- an instruction whose target is a variable of the type that it names, and that keeps the rule of
+-- its mnemonic
+pub record IsInstruction (parts : Parts) (function : Function)
+    (instruction : Instruction) : Type 0 where
   pub target : HasTarget parts function instruction.target instruction.kind
   pub row : IsRow parts function instruction.op instruction.kind instruction.operands
 
 -- a block whose first ending instruction is its last instruction; it has no handlers yet
 pub record IsBlock (parts : Parts) (function : Function) (block : Block) : Type 0 where
   pub no_handlers : block.handlers ≡ []
-  pub ends : IsSomeAnd (position (λ (i : Instruction). is_ending i.op) block.instructions) (λ k. k + 1 ≡ length block.instructions)
+  pub ends : IsSomeAnd (position (λ (i : Instruction). is_ending i.op) block.instructions)
+      (λ k. k + 1 ≡ length block.instructions)
   pub instructions : All (IsInstruction parts function) block.instructions
 
 -- a function whose parameters are among its slots, and that has a block to begin with

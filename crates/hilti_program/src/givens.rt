@@ -3,7 +3,8 @@ ghost use Rattle.std.specs.Prelude.{◌≡◌, ◌↔◌, ◌∷◌, [], IsTrue,
 ghost use Rattle.hilti_program.specs.declared.parts.Operand.{Operand};
 ghost use Rattle.std.specs.Option.{option_copied};
 ghost use Rattle.hilti_types.specs.declared.value_type.ValueType.TheVariants as variants;
-ghost use Rattle.hilti_program.specs.Givens.{IsBuilt, IsLiteral, variable_kind, IsGiven, given_kind, Gives, Give};
+ghost use Rattle.hilti_program.specs.Givens.{IsBuilt, IsLiteral, variable_kind, IsGiven};
+ghost use Rattle.hilti_program.specs.Givens.{given_kind, Gives, Give};
 
 use crate::parts::{Function, Operand, Parts, Variable};
 use hilti_tree::Tree;
@@ -150,7 +151,8 @@ pub fn give_two(
     other: &ValueType,
     items: &[Operand],
 ) -> bool
-    ensures { IsTrue result ↔ Give parts.now function.now (one_kind.now ∷ other.now ∷ []) items.now }
+    ensures { IsTrue result
+        ↔ Give parts.now function.now (one_kind.now ∷ other.now ∷ []) items.now }
 {
     match two(items) {
         Some((first, second)) => {
@@ -162,7 +164,8 @@ pub fn give_two(
 
 /// Whether the operands are a condition and two that give values of one type.
 pub fn give_choice(parts: &Parts, function: &Function, kind: &ValueType, items: &[Operand]) -> bool
-    ensures { IsTrue result ↔ Give parts.now function.now (variants.Bool ∷ kind.now ∷ kind.now ∷ []) items.now }
+    ensures { IsTrue result
+        ↔ Give parts.now function.now (variants.Bool ∷ kind.now ∷ kind.now ∷ []) items.now }
 {
     match three(items) {
         Some((condition, first, second)) => {
@@ -191,7 +194,8 @@ pub fn give_all(parts: &Parts, function: &Function, kinds: &[ValueType], items: 
 
 /// The one operand of a list; `None` exactly where there isn't just one.
 pub fn one(items: &[Operand]) -> Option<&Operand>
-    ensures { MatchOption result ((a : Operand) → items.now ≡ a ∷ [] → ⊥) (λ item. items.now ≡ item.now ∷ []) }
+    ensures { MatchOption result ((a : Operand) → items.now ≡ a ∷ []
+        → ⊥) (λ item. items.now ≡ item.now ∷ []) }
 {
     match items {
         [item] => Some(item),
@@ -201,7 +205,8 @@ pub fn one(items: &[Operand]) -> Option<&Operand>
 
 /// The two operands of a list; `None` exactly where there aren't just two.
 pub fn two(items: &[Operand]) -> Option<(&Operand, &Operand)>
-    ensures { MatchOption result ((a b : Operand) → items.now ≡ a ∷ b ∷ [] → ⊥) (λ pair. items.now ≡ pair.0.now ∷ pair.1.now ∷ []) }
+    ensures { MatchOption result ((a b : Operand) → items.now ≡ a ∷ b ∷ []
+        → ⊥) (λ pair. items.now ≡ pair.0.now ∷ pair.1.now ∷ []) }
 {
     match items {
         [first, second] => Some((first, second)),
@@ -211,7 +216,8 @@ pub fn two(items: &[Operand]) -> Option<(&Operand, &Operand)>
 
 /// The three operands of a list; `None` exactly where there aren't just three.
 pub fn three(items: &[Operand]) -> Option<(&Operand, &Operand, &Operand)>
-    ensures { MatchOption result ((a b c : Operand) → items.now ≡ a ∷ b ∷ c ∷ [] → ⊥) (λ all. items.now ≡ all.0.now ∷ all.1.now ∷ all.2.now ∷ []) }
+    ensures { MatchOption result ((a b c : Operand) → items.now ≡ a ∷ b ∷ c ∷ []
+        → ⊥) (λ all. items.now ≡ all.0.now ∷ all.1.now ∷ all.2.now ∷ []) }
 {
     match items {
         [first, second, third] => Some((first, second, third)),

@@ -1,4 +1,5 @@
-ghost use Rattle.std.specs.Prelude.{◌≡◌, ◌<◌, ◌^◌, ℕ, length, slice_get, position, Some, IsSomeAnd, MatchOption, bytes_eq};
+ghost use Rattle.std.specs.Prelude.{◌≡◌, ◌<◌, ◌^◌, ℕ, length, slice_get, position, Some, IsSomeAnd};
+ghost use Rattle.std.specs.Prelude.{MatchOption, bytes_eq};
 ghost use Rattle.std.specs.Option.{option_map};
 ghost use Rattle.hilti_base.specs.declared.names.FnId.{FnId as Id};
 ghost use Rattle.hilti_program.specs.declared.parts.Function.{Function as Body};
@@ -27,7 +28,13 @@ impl Model for Program {
 
     ghost Value = { Parts };
 
-    ghost coded = { Prim.hlevel (codes, kinds.the_row.coded, objects.the_row.coded, trees.the_row.coded, operands.the_row.coded) };
+    ghost coded = { Prim.hlevel (
+      codes,
+      kinds.the_row.coded,
+      objects.the_row.coded,
+      trees.the_row.coded,
+      operands.the_row.coded,
+    ) };
 
     ghost use Rattle.hilti_program.specs.Typing.{IsProgram};
 
@@ -37,13 +44,15 @@ impl Model for Program {
 }
 
 impl Program {
-    ghost use Rattle.hilti_program.specs.Typing.{IsTyped, HasEntry, IsProgram, IsFunction, AreShort, HasShortLists};
+    ghost use Rattle.hilti_program.specs.Typing.{IsTyped, HasEntry, IsProgram, IsFunction};
+    ghost use Rattle.hilti_program.specs.Typing.{AreShort, HasShortLists};
 
     /// The program of these parts; `None` exactly where they break a rule of typing or have no entry. It takes no
     /// memory.
     pub fn try_new(parts: Parts) -> Option<Program>
         requires { AreShort parts }
-        ensures { MatchOption result (IsTyped parts → HasEntry parts → ⊥) (λ program. program ≡ parts) }
+        ensures { MatchOption result (IsTyped parts → HasEntry parts
+            → ⊥) (λ program. program ≡ parts) }
     {
         if !is_typed(&parts) {
             return None;
@@ -91,14 +100,16 @@ impl Program {
     /// The name of a function, as `Module::name`.
     pub fn name(&self, f: FnId) -> &[u8]
         requires { f.n < length self.now.functions }
-        ensures { IsSomeAnd (slice_get self.now.functions f.n) (λ function. result.now ≡ function.name) }
+        ensures { IsSomeAnd (slice_get self.now.functions f.n) (λ function. result.now
+            ≡ function.name) }
     {
         self.function(f).name.bytes()
     }
 
     /// The first function of a name; `None` exactly where there is none.
     pub fn find(&self, name: &[u8]) -> Option<FnId>
-        ensures { option_map (λ (f : Id). f.n) result ≡ position (λ (function : Body). bytes_eq function.name name.now) self.now.functions }
+        ensures { option_map (λ (f : Id). f.n) result
+            ≡ position (λ (function : Body). bytes_eq function.name name.now) self.now.functions }
     {
         match first_named(self.parts.functions.as_slice(), name) {
             Some(at) => Some(FnId { n: at as u32 }),

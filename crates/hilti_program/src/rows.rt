@@ -3,7 +3,10 @@ ghost use Rattle.std.specs.Prelude.{◌≡◌, ◌↔◌, ◌∷◌, [], IsTrue,
 ghost use Rattle.std.specs.List.{All};
 ghost use Rattle.std.specs.Option.{option_copied};
 ghost use Rattle.hilti_program.specs.Givens.{IsGiven};
-ghost use Rattle.hilti_program.specs.Rows.{named_block, named_function, grouped, IsBlockOf, IsNop, IsAssign, IsSelect, IsPrint, Calls, IsCall, IsJump, IsIfElse, IsReturnVoid, IsReturnResult, IsBoolPair, IsBoolNot, IsIntAdd, IsIntLess, IsRow, is_ending};
+ghost use Rattle.hilti_program.specs.Rows.{named_block, named_function, grouped, IsBlockOf, IsNop};
+ghost use Rattle.hilti_program.specs.Rows.{IsAssign, IsSelect, IsPrint, Calls, IsCall, IsJump};
+ghost use Rattle.hilti_program.specs.Rows.{IsIfElse, IsReturnVoid, IsReturnResult, IsBoolPair};
+ghost use Rattle.hilti_program.specs.Rows.{IsBoolNot, IsIntAdd, IsIntLess, IsRow, is_ending};
 
 use crate::givens::{give_all, give_choice, give_one, give_two, gives, is_given, one, three, two};
 use crate::parts::{Function, Operand, Operands, Parts};

@@ -1,12 +1,14 @@
 //! Whether parts are typed. Nothing here takes memory.
-ghost use Rattle.std.specs.Prelude.{◌≡◌, ◌↔◌, ◌+◌, ◌<◌, ◌^◌, ◌∷◌, [], ℕ, IsTrue, IsSomeAnd, IfSome, MatchOption, position, length, slice_get, bytes_eq};
+ghost use Rattle.std.specs.Prelude.{◌≡◌, ◌↔◌, ◌+◌, ◌<◌, ◌^◌, ◌∷◌, [], ℕ, IsTrue, IsSomeAnd, IfSome};
+ghost use Rattle.std.specs.Prelude.{MatchOption, position, length, slice_get, bytes_eq};
 ghost use Rattle.std.specs.List.{All};
 ghost use Rattle.hilti_types.specs.declared.value_type.ValueType.TheVariants as variants;
 ghost use Rattle.hilti_program.specs.declared.parts.Function.{Function as Body};
 ghost use Rattle.hilti_program.specs.declared.parts.Instruction.{Instruction as Step};
 ghost use Rattle.hilti_program.specs.Givens.{IsBuilt, IsLiteral};
 ghost use Rattle.hilti_program.specs.Rows.{is_ending};
-ghost use Rattle.hilti_program.specs.Typing.{HasTarget, IsInstruction, IsBlock, IsFunction, IsGlobal, IsTyped, IsEntry};
+ghost use Rattle.hilti_program.specs.Typing.{HasTarget, IsInstruction, IsBlock, IsFunction};
+ghost use Rattle.hilti_program.specs.Typing.{IsGlobal, IsTyped, IsEntry};
 
 use crate::givens::{is_built, is_literal, kind_of_variable};
 use crate::parts::{Block, Function, Global, Instruction, Parts, Variable};
@@ -69,7 +71,9 @@ fn first_ending(instructions: &[Instruction]) -> Option<usize>
 
 /// Whether the first ending instruction is the last one.
 fn ends_once(instructions: &[Instruction]) -> bool
-    ensures { IsTrue result ↔ IsSomeAnd (position (λ (i : Step). is_ending i.op) instructions.now) (λ k. k + 1 ≡ length instructions.now) }
+    ensures { IsTrue result
+        ↔ IsSomeAnd (position (λ (i : Step). is_ending i.op) instructions.now) (λ k. k + 1
+        ≡ length instructions.now) }
 {
     match first_ending(instructions) {
         Some(at) => at + 1 == instructions.len(),
@@ -177,7 +181,8 @@ pub fn is_entry(function: &Function) -> bool
 /// A place where the entry stands; `None` exactly where it stands nowhere.
 pub fn find_entry(functions: &[Function]) -> Option<u32>
     requires { length functions.now < 2 ^ 32 }
-    ensures { MatchOption result ((f : ℕ) → IsSomeAnd (slice_get functions.now f) IsEntry → ⊥) (λ f. IsSomeAnd (slice_get functions.now f) IsEntry) }
+    ensures { MatchOption result ((f : ℕ) → IsSomeAnd (slice_get functions.now f) IsEntry
+        → ⊥) (λ f. IsSomeAnd (slice_get functions.now f) IsEntry) }
 {
     for at in 0..functions.len() {
         if is_entry(&functions[at]) {
@@ -189,7 +194,8 @@ pub fn find_entry(functions: &[Function]) -> Option<u32>
 
 /// The place of the first function of a name.
 pub fn first_named(functions: &[Function], name: &[u8]) -> Option<usize>
-    ensures is { result ≡ position (λ (function : Body). bytes_eq function.name name.now) functions.now }
+    ensures is { result
+        ≡ position (λ (function : Body). bytes_eq function.name name.now) functions.now }
     ensures within { IfSome result (λ at. at < length functions.now) }
 {
     functions

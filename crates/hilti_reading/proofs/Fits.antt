@@ -33,8 +33,8 @@ module _ {K R P T : Type 0} (g : Grammar K R P T) where
       nowhere ts d = elim d [ ]
 
 -- trees of a list that a symbol derives some tokens with tell what it is a list of, if those of its items do
-module _ {K R P T V W : Type 0} (g : Grammar K R P T) (s : Symbol K R) (f : V → Tree P T) (v : V → W) (same : (x y : V) → Fits g s (f x) → f x ≡ f y → v x ≡ v y) where
-  pub fitting_one : (xs ys : List V) → Fits g (Many s) (list_tree (map f xs)) → list_tree (map f xs) ≡ list_tree (map f ys) → map v xs ≡ map v ys
+module _ {K R P T V : Type 0} (g : Grammar K R P T) (s : Symbol K R) (f : V → Tree P T) (same : (x y : V) → Fits g s (f x) → f x ≡ f y → x ≡ y) where
+  pub fitting_one : (xs ys : List V) → Fits g (Many s) (list_tree (map f xs)) → list_tree (map f xs) ≡ list_tree (map f ys) → xs ≡ ys
   fitting_one [] [] h e = refl
   fitting_one [] (y ∷ ys) h e = cc
   fitting_one (x ∷ xs) [] h e = cc

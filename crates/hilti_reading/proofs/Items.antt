@@ -2,20 +2,21 @@
 use Rattle.std.proofs.Common.{◌≡◌, List, refl, ap}
 use Rattle.std.specs.Prelude.{Option, Some, None}
 use Rattle.hilti_grammar.specs.Grammar.{Symbol.Rule, Tree.Nothing, Tree.Pair, Tree.Left, Tree.Right}
-use Rattle.hilti_syntax.specs.declared.types.TypeText.{TypeText}
-use Rattle.hilti_syntax.specs.declared.types.Word.{Word}
-use Rattle.hilti_syntax.specs.declared.types.Name.{Name}
-use Rattle.hilti_syntax.specs.declared.types.Number.{Number}
-use Rattle.hilti_syntax.specs.declared.module.Body.{Body}
-use Rattle.hilti_syntax.specs.declared.module.Item.{Item}
-use Rattle.hilti_syntax.specs.declared.module.Item.TheVariants as items
-use Rattle.hilti_syntax.specs.declared.module.Literal.{Literal}
-use Rattle.hilti_syntax.specs.declared.module.Parameter.{Parameter}
-use Rattle.hilti_syntax.specs.Items.{literal_tree, arguments_tree, body_tree, shape_tree, hook_tree, behind_hook, result_tree, item_tree}
-use Rattle.hilti_syntax.specs.Modules.{RuleName.ItemText as an_item, RuleName.HookRest as hook_rest, RuleName.HookBody as hook_body, grammar}
-use Rattle.hilti_syntax.specs.Spelled.{ModuleTree, word_tree, number_tree, behind_mark, maybe_tree}
-use Rattle.hilti_syntax.specs.Trees.{type_tree}
-use Rattle.hilti_reading.specs.Settled.{settled_body, settled_item}
+use Rattle.hilti_module.specs.declared.types.TypeText.{TypeText}
+use Rattle.hilti_module.specs.declared.types.Word.{Word}
+use Rattle.hilti_module.specs.declared.types.Name.{Name}
+use Rattle.hilti_module.specs.declared.types.Number.{Number}
+use Rattle.hilti_module.specs.declared.module.Body.{Body}
+use Rattle.hilti_module.specs.declared.module.Item.{Item}
+use Rattle.hilti_module.specs.declared.module.Item.TheVariants as items
+use Rattle.hilti_module.specs.declared.module.Literal.{Literal}
+use Rattle.hilti_module.specs.declared.module.Parameter.{Parameter}
+use Rattle.hilti_read_literals.specs.Literals.{literal_tree}
+use Rattle.hilti_read_shapes.specs.Shapes.{arguments_tree, shape_tree}
+use Rattle.hilti_syntax.specs.Items.{body_tree, hook_tree, behind_hook, result_tree, item_tree}
+use Rattle.hilti_reader.specs.Modules.{RuleName.ItemText as an_item, RuleName.HookRest as hook_rest, RuleName.HookBody as hook_body, grammar}
+use Rattle.hilti_reader.specs.Spelled.{ModuleTree, word_tree, number_tree, behind_mark, maybe_tree}
+use Rattle.hilti_read_types.specs.Trees.{type_tree}
 use Rattle.hilti_reading.proofs.Equal.{both, all_three, all_four}
 use Rattle.hilti_reading.proofs.Fits.{Fits, fits_both, fits_left, fits_right, fits_rule}
 use Rattle.hilti_reading.proofs.Lines.{body_one}
@@ -42,7 +43,7 @@ result_one None (Some b) e = cc
 result_one (Some a) None e = cc
 result_one (Some a) (Some b) e = ap Some (one_type a b (let here : type_tree a ≡ type_tree b = cc in here))
 
-hook_one : (p q : Option Number) (a b : Body) → Fits grammar (Rule hook_body) (hook_tree p a) → hook_tree p a ≡ hook_tree q b → (p ≡ q) × (settled_body a ≡ settled_body b)
+hook_one : (p q : Option Number) (a b : Body) → Fits grammar (Rule hook_body) (hook_tree p a) → hook_tree p a ≡ hook_tree q b → (p ≡ q) × (a ≡ b)
 hook_one p q a b h e = (
   maybe_one number_behind priority_one p q (let here : maybe_tree number_behind p ≡ maybe_tree number_behind q = cc in here),
   body_one a b (fits_both grammar _ _ _ _ (fits_rule grammar hook_body _ h)).1 (let here : body_tree a ≡ body_tree b = cc in here),
@@ -70,7 +71,7 @@ name_of first second = record { first = first; second = second }
 
 two_bodies : (m n : Name) (xs ys : List Parameter) (p q : Option Number) (a b : Body) →
     Fits grammar (Rule an_item) (item_tree (items.HookBody m xs p a)) → item_tree (items.HookBody m xs p a) ≡ item_tree (items.HookBody n ys q b) →
-    settled_item (items.HookBody m xs p a) ≡ settled_item (items.HookBody n ys q b)
+    items.HookBody m xs p a ≡ items.HookBody n ys q b
 two_bodies m n xs ys p q a b h e =
     let first = word_one m.first n.first (let here : word_tree m.first ≡ word_tree n.first = cc in here) in
     let behind : behind_hook m.second xs (hook_tree p a) ≡ behind_hook n.second ys (hook_tree q b) = cc in
@@ -81,7 +82,7 @@ two_bodies m n xs ys p q a b h e =
 
 two_functions : (r s : Option TypeText) (m n : Word) (xs ys : List Parameter) (a b : Body) →
     Fits grammar (Rule an_item) (item_tree (items.Function r m xs a)) → item_tree (items.Function r m xs a) ≡ item_tree (items.Function s n ys b) →
-    settled_item (items.Function r m xs a) ≡ settled_item (items.Function s n ys b)
+    items.Function r m xs a ≡ items.Function s n ys b
 two_functions r s m n xs ys a b h e =
     let fits = (fits_both grammar _ _ _ _ (fits_both grammar _ _ _ _ (fits_both grammar _ _ _ _ (fits_right grammar _ _ _ (fits_right grammar _ _ _ (fits_right grammar _ _ _ (fits_rule grammar an_item _ h))))).1).1).1 in
     all_four (λ result name parameters body. items.Function result name parameters body)
@@ -90,7 +91,7 @@ two_functions r s m n xs ys a b h e =
     (arguments_one xs ys (let here : arguments_tree xs ≡ arguments_tree ys = cc in here))
     (body_one a b fits (let here : body_tree a ≡ body_tree b = cc in here))
 
-pub item_one : (a b : Item) → Fits grammar (Rule an_item) (item_tree a) → item_tree a ≡ item_tree b → settled_item a ≡ settled_item b
+pub item_one : (a b : Item) → Fits grammar (Rule an_item) (item_tree a) → item_tree a ≡ item_tree b → a ≡ b
 item_one (items.Type m x) (items.Type n y) h e =
     both (λ name shape. items.Type name shape) (word_one m n (let here : word_tree m ≡ word_tree n = cc in here))
     (shape_one x y (let here : shape_tree x ≡ shape_tree y = cc in here))

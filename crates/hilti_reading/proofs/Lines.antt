@@ -1,51 +1,54 @@
 -- Trees of lines and bodies that a text can have tell what they are of.
-use Rattle.std.proofs.Common.{◌≡◌, Bool, true, false, List, refl, sym, ◌∙◌, ap}
-use Rattle.std.specs.Prelude.{map, cond, Option, Some, None}
+use Rattle.std.proofs.Common.{◌≡◌, Bool, true, false, List, refl, sym, ap}
+use Rattle.std.specs.Prelude.{map, cond, codes, Option, Some, None}
 use Rattle.hilti_base.specs.declared.names.Place.{Place}
 use Rattle.hilti_lexer.specs.declared.token.TokenKind.TheVariants as tokens
 use Rattle.hilti_grammar.specs.Grammar.{Symbol, Symbol.One, Symbol.◌▹◌, Symbol.Rule, Keep.Placed, Tree.Pair, Tree.Left, Tree.Right}
 use Rattle.hilti_grammar.specs.Reads.{list_tree}
-use Rattle.hilti_syntax.specs.declared.kind.Kind.{Kind}
-use Rattle.hilti_syntax.specs.declared.kind.Kind.TheVariants as kinds
-use Rattle.hilti_syntax.specs.declared.types.Word.{Word}
-use Rattle.hilti_syntax.specs.declared.types.Name.{Name}
-use Rattle.hilti_syntax.specs.declared.module.Body.{Body}
-use Rattle.hilti_syntax.specs.declared.module.Handler.{Handler}
-use Rattle.hilti_syntax.specs.declared.module.Line.{Line}
-use Rattle.hilti_syntax.specs.declared.module.Line.TheVariants as lines
-use Rattle.hilti_syntax.specs.declared.module.Mnemonic.{Mnemonic}
-use Rattle.hilti_syntax.specs.declared.module.Operand.{Operand}
-use Rattle.hilti_syntax.specs.declared.module.Parameter.{Parameter}
-use Rattle.hilti_syntax.specs.Items.{operands_tree, behind_first_word, instruction_tree, is_reserved, behind_target, handler_tree, line_tree, parameter_tree, local_tree, body_tree}
-use Rattle.hilti_syntax.specs.Modules.{RuleName, RuleName.Operands as the_operands, RuleName.AfterWord as after_word, RuleName.InstructionText as an_instruction, RuleName.LineText as a_line, RuleName.BodyText as a_body, grammar, mark, maybe, line_end, any_words}
-use Rattle.hilti_syntax.specs.Spelled.{ModuleTree, marked_at, word_tree, behind_word, maybe_tree, name_tree}
-use Rattle.hilti_reading.specs.Settled.{settled_operand, settled_line, settled_body}
-use Rattle.hilti_reading.proofs.Equal.{both, all_three}
+use Rattle.hilti_kinds.specs.declared.kind.Kind.{Kind}
+use Rattle.hilti_kinds.specs.declared.kind.Kind.TheVariants as kinds
+use Rattle.hilti_module.specs.declared.types.Word.{Word}
+use Rattle.hilti_module.specs.declared.types.Name.{Name}
+use Rattle.hilti_module.specs.declared.module.Body.{Body}
+use Rattle.hilti_module.specs.declared.module.Handler.{Handler}
+use Rattle.hilti_module.specs.declared.module.Line.{Line}
+use Rattle.hilti_module.specs.declared.module.Line.TheVariants as lines
+use Rattle.hilti_module.specs.declared.module.Mnemonic.{Mnemonic}
+use Rattle.hilti_module.specs.declared.module.Operand.{Operand}
+use Rattle.hilti_module.specs.declared.module.Parameter.{Parameter}
+use Rattle.hilti_read_operands.specs.Operands.{operands_tree}
+use Rattle.hilti_syntax.specs.Items.{behind_first_word, instruction_tree, is_reserved, behind_target, handler_tree, line_tree, local_tree, body_tree}
+use Rattle.hilti_read_shapes.specs.Shapes.{parameter_tree}
+use Rattle.hilti_reader.specs.Modules.{RuleName, RuleName.Operands as the_operands, RuleName.AfterWord as after_word, RuleName.InstructionText as an_instruction, RuleName.LineText as a_line, RuleName.BodyText as a_body, grammar, mark, maybe, line_end, any_words}
+use Rattle.hilti_reader.specs.Spelled.{ModuleTree, keyword_at, marked_at, word_tree, behind_word, maybe_tree, name_tree}
+use Rattle.hilti_reading.proofs.Equal.{both, all_three, all_four}
 use Rattle.hilti_reading.proofs.Fits.{Fits, fits_both, fits_left, fits_right, fits_rule, fitting_one}
 use Rattle.hilti_reading.proofs.Literals.{behind_word_one}
 use Rattle.hilti_reading.proofs.Operands.{operands_one}
-use Rattle.hilti_reading.proofs.Sequences.{list_one, map_same}
+use Rattle.hilti_reading.proofs.Sequences.{listed}
 use Rattle.hilti_reading.proofs.Shapes.{maybe_one, parameter_one}
 use Rattle.hilti_reading.proofs.Spots.{spot_one, word_one, name_one}
 
-abbrev handler_of : Name → Word → Word → Handler
-handler_of exception target slot = record { exception = exception; target = target; slot = slot }
+abbrev handler_of : Place → Name → Word → Word → Handler
+handler_of place exception target slot = record { place = place; exception = exception; target = target; slot = slot }
 
 handler_one : (a b : Handler) → handler_tree a ≡ handler_tree b → a ≡ b
 handler_one a b e =
-    all_three handler_of (name_one a.exception b.exception (let here : name_tree a.exception ≡ name_tree b.exception = cc in here))
+    all_four handler_of
+    (spot_one a.place b.place (tokens.Word (codes "catch")) (tokens.Word (codes "catch")) (let here : keyword_at a.place kinds.Catch ≡ keyword_at b.place kinds.Catch = cc in here)).0
+    (name_one a.exception b.exception (let here : name_tree a.exception ≡ name_tree b.exception = cc in here))
     (word_one a.target b.target (let here : word_tree a.target ≡ word_tree b.target = cc in here))
     (word_one a.slot b.slot (let here : word_tree a.slot ≡ word_tree b.slot = cc in here))
 
 handlers_one : (xs ys : List Handler) → list_tree (map handler_tree xs) ≡ list_tree (map handler_tree ys) → xs ≡ ys
-handlers_one xs ys e = sym (map_same xs) ∙ (list_one handler_tree handler_tree (λ x. x) (λ x. x) handler_one xs ys e ∙ map_same ys)
+handlers_one xs ys e = listed handler_tree handler_one xs ys e
 
 -- what stands behind the first word of a mnemonic
 abbrev rest : Symbol Kind RuleName
 rest = maybe (mark kinds.Dot ▹ One Placed any_words) ▹ (Rule the_operands ▹ line_end)
 
 rest_one : (m n : Mnemonic) (xs ys : List Operand) → Fits grammar rest (behind_first_word m xs) → behind_first_word m xs ≡ behind_first_word n ys →
-    (m.second ≡ n.second) × (map settled_operand xs ≡ map settled_operand ys)
+    (m.second ≡ n.second) × (xs ≡ ys)
 rest_one m n xs ys h e = (
   maybe_one behind_word behind_word_one m.second n.second (let here : maybe_tree behind_word m.second ≡ maybe_tree behind_word n.second = cc in here),
   operands_one false xs ys (fits_both grammar _ _ _ _ (fits_both grammar _ _ _ _ h).1).0 (let here : operands_tree false xs ≡ operands_tree false ys = cc in here),
@@ -56,7 +59,7 @@ mnemonic_of first second = record { first = first; second = second }
 
 -- two instructions with the same first words and the same behind them
 two_instructions : (t s : Option Name) (m n : Mnemonic) (xs ys : List Operand) → t ≡ s → m.first ≡ n.first → Fits grammar rest (behind_first_word m xs) → behind_first_word m xs ≡ behind_first_word n ys →
-    settled_line (lines.Instruction t m xs) ≡ settled_line (lines.Instruction s n ys)
+    lines.Instruction t m xs ≡ lines.Instruction s n ys
 two_instructions t s m n xs ys target first h e =
     let same = rest_one m n xs ys h e in all_three (λ t m l. lines.Instruction t m l) target (both mnemonic_of first same.0) same.1
 
@@ -105,7 +108,7 @@ abbrev name_of : Word → Option Word → Name
 name_of first second = record { first = first; second = second }
 
 two_aimed : (t s : Name) (m n : Mnemonic) (xs ys : List Operand) → Fits grammar (Rule a_line) (aimed t (instruction_tree m xs)) → aimed t (instruction_tree m xs) ≡ aimed s (instruction_tree n ys) →
-    settled_line (lines.Instruction (Some t) m xs) ≡ settled_line (lines.Instruction (Some s) n ys)
+    lines.Instruction (Some t) m xs ≡ lines.Instruction (Some s) n ys
 two_aimed t s m n xs ys h e =
     let first = word_one t.first s.first (let here : word_tree t.first ≡ word_tree s.first = cc in here) in
     let behind : behind_target t.second (instruction_tree m xs) ≡ behind_target s.second (instruction_tree n ys) = cc in
@@ -117,7 +120,7 @@ two_aimed t s m n xs ys h e =
     (fits_both grammar _ _ _ _ (fits_rule grammar an_instruction _ fits)).1
     (let here : behind_first_word m xs ≡ behind_first_word n ys = cc in here)
 
-line_one : (a b : Line) → Fits grammar (Rule a_line) (line_tree a) → line_tree a ≡ line_tree b → settled_line a ≡ settled_line b
+line_one : (a b : Line) → Fits grammar (Rule a_line) (line_tree a) → line_tree a ≡ line_tree b → a ≡ b
 line_one (lines.Label p v xs) (lines.Label q w ys) h e =
     all_three (λ p w l. lines.Label p w l) (spot_one p q (tokens.Mark 64) (tokens.Mark 64) (let here : marked_at p 64 ≡ marked_at q 64 = cc in here)).0
     (word_one v w (let here : word_tree v ≡ word_tree w = cc in here))
@@ -137,14 +140,14 @@ local_one : (a b : Parameter) → local_tree a ≡ local_tree b → a ≡ b
 local_one a b e = parameter_one a b (let here : parameter_tree a ≡ parameter_tree b = cc in here)
 
 locals_one : (xs ys : List Parameter) → list_tree (map local_tree xs) ≡ list_tree (map local_tree ys) → xs ≡ ys
-locals_one xs ys e = sym (map_same xs) ∙ (list_one local_tree local_tree (λ x. x) (λ x. x) local_one xs ys e ∙ map_same ys)
+locals_one xs ys e = listed local_tree local_one xs ys e
 
 abbrev body_of : List Parameter → List Line → Place → Body
 body_of locals inside close = record { locals = locals; lines = inside; close = close }
 
-pub body_one : (a b : Body) → Fits grammar (Rule a_body) (body_tree a) → body_tree a ≡ body_tree b → settled_body a ≡ settled_body b
+pub body_one : (a b : Body) → Fits grammar (Rule a_body) (body_tree a) → body_tree a ≡ body_tree b → a ≡ b
 body_one a b h e =
     let fits = (fits_both grammar _ _ _ _ (fits_both grammar _ _ _ _ (fits_both grammar _ _ _ _ (fits_both grammar _ _ _ _ (fits_rule grammar a_body _ h)).1).1).1).0 in
     all_three body_of (locals_one a.locals b.locals (let here : list_tree (map local_tree a.locals) ≡ list_tree (map local_tree b.locals) = cc in here))
-    (fitting_one grammar (Rule a_line) line_tree settled_line line_one a.lines b.lines fits (let here : list_tree (map line_tree a.lines) ≡ list_tree (map line_tree b.lines) = cc in here))
+    (fitting_one grammar (Rule a_line) line_tree line_one a.lines b.lines fits (let here : list_tree (map line_tree a.lines) ≡ list_tree (map line_tree b.lines) = cc in here))
     (spot_one a.close b.close (tokens.Mark 125) (tokens.Mark 125) (let here : marked_at a.close 125 ≡ marked_at b.close 125 = cc in here)).0

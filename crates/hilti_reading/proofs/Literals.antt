@@ -6,17 +6,17 @@ use Rattle.hilti_base.specs.declared.names.Place.{Place}
 use Rattle.hilti_lexer.specs.declared.token.TokenKind.{TokenKind}
 use Rattle.hilti_lexer.specs.declared.token.TokenKind.TheVariants as tokens
 use Rattle.hilti_grammar.specs.Grammar.{Tree.Spot, Tree.Pair, Tree.Left, Tree.Right}
-use Rattle.hilti_syntax.specs.declared.kind.Kind.{Kind}
-use Rattle.hilti_syntax.specs.declared.kind.Kind.TheVariants as kinds
-use Rattle.hilti_syntax.specs.declared.types.Word.{Word}
-use Rattle.hilti_syntax.specs.declared.types.Name.{Name}
-use Rattle.hilti_syntax.specs.declared.module.Literal.{Literal}
-use Rattle.hilti_syntax.specs.declared.module.Literal.TheVariants as literals
-use Rattle.hilti_syntax.specs.declared.module.Seconds.{Seconds}
-use Rattle.hilti_syntax.specs.declared.module.Seconds.TheVariants as seconds
-use Rattle.hilti_syntax.specs.Kinds.{kind_of}
-use Rattle.hilti_syntax.specs.Spelled.{ModuleTree, between_marks, behind_word, name_tree}
-use Rattle.hilti_syntax.specs.Items.{seconds_tree, literal_tree}
+use Rattle.hilti_kinds.specs.declared.kind.Kind.{Kind}
+use Rattle.hilti_kinds.specs.declared.kind.Kind.TheVariants as kinds
+use Rattle.hilti_module.specs.declared.types.Word.{Word}
+use Rattle.hilti_module.specs.declared.types.Name.{Name}
+use Rattle.hilti_module.specs.declared.module.Literal.{Literal}
+use Rattle.hilti_module.specs.declared.module.Literal.TheVariants as literals
+use Rattle.hilti_module.specs.declared.module.Seconds.{Seconds}
+use Rattle.hilti_module.specs.declared.module.Seconds.TheVariants as seconds
+use Rattle.hilti_kinds.specs.Kinds.{kind_of}
+use Rattle.hilti_reader.specs.Spelled.{ModuleTree, between_marks, behind_word, name_tree}
+use Rattle.hilti_read_literals.specs.Literals.{seconds_tree, literal_tree}
 use Rattle.hilti_reading.proofs.Equal.{both, all_three}
 use Rattle.hilti_reading.proofs.Spots.{spot_one, word_one, name_one}
 

@@ -1,48 +1,25 @@
 -- A text is at most one module.
-use Rattle.std.proofs.Common.{◌≡◌, ◌≤◌, ℕ, List, sym, ◌∙◌, subst}
+use Rattle.std.proofs.Common.{◌≡◌, ◌≤◌, List, subst}
 use Rattle.std.proofs.Math.Bridge.{le_prop}
 use Rattle.std.specs.Prelude.{map}
 use Rattle.hilti_lexer.proofs.Unique.{one_reading}
 use Rattle.hilti_grammar.specs.Grammar.{Symbol.Rule}
 use Rattle.hilti_grammar.specs.Reads.{list_tree}
-use Rattle.hilti_syntax.specs.declared.types.Word.{Word}
-use Rattle.hilti_syntax.specs.declared.module.Item.{Item}
-use Rattle.hilti_syntax.specs.declared.module.Module.{Module}
-use Rattle.hilti_syntax.specs.Counts.{module_count}
-use Rattle.hilti_syntax.specs.Ends.{end_of}
+use Rattle.hilti_module.specs.declared.types.Word.{Word}
+use Rattle.hilti_module.specs.declared.module.Item.{Item}
+use Rattle.hilti_module.specs.declared.module.Module.{Module}
+use Rattle.hilti_module.specs.Counts.{module_count}
+use Rattle.hilti_pieces.specs.Ends.{end_of}
 use Rattle.hilti_syntax.specs.Items.{item_tree, module_tree}
-use Rattle.hilti_syntax.specs.Modules.{RuleName.ItemText as an_item, RuleName.ModuleText as a_module, grammar}
-use Rattle.hilti_syntax.specs.Pieces.{pieces_of}
-use Rattle.hilti_syntax.specs.Refusals.{DerivesModule}
-use Rattle.hilti_syntax.specs.Spelled.{word_tree}
-use Rattle.hilti_syntax.specs.Texts.{TextIsModule}
-use Rattle.hilti_reading.specs.OneModule.{OneList, OneModule, OneName}
-use Rattle.hilti_reading.specs.Settled.{settled_item, settled_items}
+use Rattle.hilti_reader.specs.Modules.{RuleName.ItemText as an_item, RuleName.ModuleText as a_module, grammar}
+use Rattle.hilti_pieces.specs.Pieces.{pieces_of}
+use Rattle.hilti_refusals.specs.Refusals.{DerivesModule}
+use Rattle.hilti_reader.specs.Spelled.{word_tree}
+use Rattle.hilti_reading.specs.OneModule.{OneModule}
 use Rattle.hilti_reading.proofs.Equal.{both}
 use Rattle.hilti_reading.proofs.Fits.{Fits, fits_both, fits_rule, fitting_one}
 use Rattle.hilti_reading.proofs.Items.{item_one}
 use Rattle.hilti_reading.proofs.Spots.{word_one}
-
--- modules with one tree
-module_one : (m other : Module) → Fits grammar (Rule a_module) (module_tree m) → module_tree m ≡ module_tree other → (m.name ≡ other.name) × (settled_items m.items ≡ settled_items other.items)
-module_one m other h e = (
-  word_one m.name other.name (let here : word_tree m.name ≡ word_tree other.name = cc in here),
-  fitting_one grammar (Rule an_item) item_tree settled_item item_one m.items other.items
-      (fits_both grammar _ _ _ _ (fits_both grammar _ _ _ _ (fits_both grammar _ _ _ _ (fits_rule grammar a_module _ h)).1).1).1
-      (let here : list_tree (map item_tree m.items) ≡ list_tree (map item_tree other.items) = cc in here),
-)
-
--- modules of one text
-one_content : (file : ℕ) (text : List ℕ) (m other : Module) → TextIsModule file text m → TextIsModule file text other → (m.name ≡ other.name) × (settled_items m.items ≡ settled_items other.items)
-one_content file text m other is also =
-    let derives = subst (λ tokens. DerivesModule tokens (end_of file text) (module_tree m)) (one_reading file text is.tokens also.tokens is.lexed also.lexed) is.are.0 in
-    module_one m other (pieces_of also.tokens (end_of file text), derives) (also.are.1 (module_tree m) derives)
-
-pub one_name : OneName
-one_name file text m other is also = (one_content file text m other is also).0
-
-pub one_list : OneList
-one_list file text m other is also = (one_content file text m other is also).1
 
 abbrev module_of : (name : Word) (inside : List Item) → module_count inside ≤ 1048576 → Module
 module_of name inside bounded = record { name = name; items = inside; bounded = bounded }
@@ -52,6 +29,16 @@ same_module m other e f =
     subst (λ inside. (bounded : module_count inside ≤ 1048576) → m ≡ module_of other.name inside bounded) f
     (λ bounded. both (λ name b. module_of name m.items b) e (le_prop m.bounded bounded)) other.bounded
 
+-- modules with one tree
+module_one : (m other : Module) → Fits grammar (Rule a_module) (module_tree m) → module_tree m ≡ module_tree other → m ≡ other
+module_one m other h e =
+    same_module m other (word_one m.name other.name (let here : word_tree m.name ≡ word_tree other.name = cc in here))
+    (fitting_one grammar (Rule an_item) item_tree item_one m.items other.items
+    (fits_both grammar _ _ _ _ (fits_both grammar _ _ _ _ (fits_both grammar _ _ _ _ (fits_rule grammar a_module _ h)).1).1).1
+    (let here : list_tree (map item_tree m.items) ≡ list_tree (map item_tree other.items) = cc in here))
+
+-- modules of one text
 pub one_module : OneModule
-one_module file text m other settled also_settled is also =
-    same_module m other (one_name file text m other is also) (sym settled ∙ (one_list file text m other is also ∙ also_settled))
+one_module file text m other is also =
+    let derives = subst (λ tokens. DerivesModule tokens (end_of file text) (module_tree m)) (one_reading file text is.tokens also.tokens is.lexed also.lexed) is.are.0 in
+    module_one m other (pieces_of also.tokens (end_of file text), derives) (also.are.1 (module_tree m) derives)

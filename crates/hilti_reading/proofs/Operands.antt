@@ -5,30 +5,30 @@ use Rattle.hilti_base.specs.declared.names.Place.{Place}
 use Rattle.hilti_lexer.specs.declared.token.TokenKind.TheVariants as tokens
 use Rattle.hilti_grammar.specs.Grammar.{Symbol.Rule, Tree.Nothing, Tree.Pair, Tree.Left, Tree.Right}
 use Rattle.hilti_grammar.specs.Reads.{separated_tree}
-use Rattle.hilti_syntax.specs.declared.kind.Kind.{Kind}
-use Rattle.hilti_syntax.specs.declared.module.Operand.{Operand}
-use Rattle.hilti_syntax.specs.declared.module.Operand.TheVariants as operands
-use Rattle.hilti_syntax.specs.declared.module.Seconds.{Seconds}
-use Rattle.hilti_syntax.specs.declared.module.Simple.{Simple}
-use Rattle.hilti_syntax.specs.Items.{TimePart, seconds_tree, time_part, other_tree, simple_of, simple_tree, group_tree, operand_of, operands_tree}
-use Rattle.hilti_syntax.specs.Modules.{RuleName.Operands as the_operands, RuleName.OperandsBehindTime as behind_time, grammar}
-use Rattle.hilti_syntax.specs.Operands.{is_alone}
-use Rattle.hilti_syntax.specs.Spelled.{ModuleTree, marked_at, between_marks}
-use Rattle.hilti_reading.specs.Settled.{settled_simple, settled_operand}
+use Rattle.hilti_kinds.specs.declared.kind.Kind.{Kind}
+use Rattle.hilti_module.specs.declared.module.Operand.{Operand}
+use Rattle.hilti_module.specs.declared.module.Operand.TheVariants as operands
+use Rattle.hilti_module.specs.declared.module.Seconds.{Seconds}
+use Rattle.hilti_module.specs.declared.module.Simple.{Simple}
+use Rattle.hilti_read_literals.specs.Literals.{TimePart, seconds_tree, time_part}
+use Rattle.hilti_read_operands.specs.Operands.{other_tree, simple_of, simple_tree, group_tree, operand_of, operands_tree}
+use Rattle.hilti_reader.specs.Modules.{RuleName.Operands as the_operands, RuleName.OperandsBehindTime as behind_time, grammar}
+use Rattle.hilti_read_operands.specs.Operands.{is_alone}
+use Rattle.hilti_reader.specs.Spelled.{ModuleTree, marked_at, between_marks}
 use Rattle.hilti_reading.proofs.Equal.{both}
 use Rattle.hilti_reading.proofs.Fits.{Fits, fits_both, fits_left, fits_right, fits_rule, fits_none}
-use Rattle.hilti_reading.proofs.Sequences.{separated_one}
+use Rattle.hilti_reading.proofs.Sequences.{separated}
 use Rattle.hilti_reading.proofs.Simples.{simple_one}
 use Rattle.hilti_reading.proofs.Spots.{spot_one}
 
-group_one : (p q : Place) (xs ys : List Simple) → group_tree p xs ≡ group_tree q ys → (p ≡ q) × (map settled_simple xs ≡ map settled_simple ys)
+group_one : (p q : Place) (xs ys : List Simple) → group_tree p xs ≡ group_tree q ys → (p ≡ q) × (xs ≡ ys)
 group_one p q [] [] e = ((spot_one p q (tokens.Mark 40) (tokens.Mark 40) (let here : marked_at p 40 ≡ marked_at q 40 = cc in here)).0, refl)
 group_one p q [] (y ∷ ys) e = cc
 group_one p q (x ∷ xs) [] e = cc
 group_one p q (x ∷ xs) (y ∷ ys) e =
     let inside : separated_tree (map simple_tree (x ∷ xs)) ≡ separated_tree (map simple_tree (y ∷ ys)) = cc in (
       (spot_one p q (tokens.Mark 40) (tokens.Mark 40) (let here : marked_at p 40 ≡ marked_at q 40 = cc in here)).0,
-      separated_one simple_tree simple_tree settled_simple settled_simple simple_one (x ∷ xs) (y ∷ ys) inside,
+      separated simple_tree simple_one (x ∷ xs) (y ∷ ys) inside,
     )
 
 -- operands derive some tokens, behind `time` or `interval` alone or not
@@ -93,7 +93,7 @@ two_operands None (Some part) o u f g h k e = cc
 two_operands (Some part) None o u f g h k e = cc
 two_operands (Some part) (Some other) o u f g h k e = two_times part.place other.place part.kind other.kind part.number other.number o u f g h k e
 
-pub operands_one : (b : Bool) (xs ys : List Operand) → FitsOperands b (operands_tree b xs) → operands_tree b xs ≡ operands_tree b ys → map settled_operand xs ≡ map settled_operand ys
+pub operands_one : (b : Bool) (xs ys : List Operand) → FitsOperands b (operands_tree b xs) → operands_tree b xs ≡ operands_tree b ys → xs ≡ ys
 operands_one b [] [] h e = refl
 operands_one b [] (operands.Simple t ∷ ys) h e = absurd (not_end (time_part t) (other_tree t) (operands_tree false ys) (operands_tree true ys) (sym e))
 operands_one false [] (operands.Group q y ∷ ys) h e = cc

@@ -1,11 +1,11 @@
 -- A text that is refused is refused once, and is no module.
 use Rattle.std.proofs.Common.{sym, ◌∙◌, ap, subst, inl, inr}
 use Rattle.hilti_lexer.proofs.Unique.{one_reading, read_or_refused, one_refusal as one_fault}
-use Rattle.hilti_syntax.specs.Ends.{end_of}
+use Rattle.hilti_pieces.specs.Ends.{end_of}
 use Rattle.hilti_syntax.specs.Items.{module_tree}
-use Rattle.hilti_syntax.specs.Refusals.{DerivesModule, FirstRefused}
+use Rattle.hilti_refusals.specs.Refusals.{DerivesModule, FirstRefused}
 use Rattle.hilti_syntax.specs.Texts.{code_of_stop}
-use Rattle.hilti_syntax.proofs.Once.{never_both as never_both_tokens, refused_once}
+use Rattle.hilti_refusals.proofs.Once.{never_both as never_both_tokens, refused_once}
 use Rattle.hilti_reading.specs.Refusals.{NeverBoth, OneRefusal}
 
 pub never_both : NeverBoth

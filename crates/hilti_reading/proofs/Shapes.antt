@@ -1,26 +1,25 @@
 -- Trees of parameters, fields and declared types tell what they are of.
-use Rattle.std.proofs.Common.{◌≡◌, Bool, true, false, List, [], ◌∷◌, refl, sym, ◌∙◌, ap}
-use Rattle.std.specs.Prelude.{map, cond, codes, bytes_eq, Option, Some, None}
+use Rattle.std.proofs.Common.{◌≡◌, Bool, true, false, List, [], ◌∷◌, refl, sym, ap}
+use Rattle.std.specs.Prelude.{cond, codes, bytes_eq, Option, Some, None}
 use Rattle.hilti_base.specs.declared.names.Place.{Place}
 use Rattle.hilti_grammar.specs.Grammar.{Tree.Pair, Tree.Left, Tree.Right}
-use Rattle.hilti_grammar.specs.Reads.{separated_tree}
-use Rattle.hilti_syntax.specs.declared.kind.Kind.TheVariants as kinds
-use Rattle.hilti_syntax.specs.declared.types.TypeText.{TypeText}
-use Rattle.hilti_syntax.specs.declared.types.Word.{Word}
-use Rattle.hilti_syntax.specs.declared.types.Name.{Name}
-use Rattle.hilti_syntax.specs.declared.types.Number.{Number}
-use Rattle.hilti_syntax.specs.declared.module.Parameter.{Parameter}
-use Rattle.hilti_syntax.specs.declared.module.Shape.{Shape}
-use Rattle.hilti_syntax.specs.declared.module.Shape.TheVariants as shapes
-use Rattle.hilti_syntax.specs.declared.module.Field.{Field}
-use Rattle.hilti_syntax.specs.declared.module.Form.{Form}
-use Rattle.hilti_syntax.specs.declared.module.Form.TheVariants as forms
-use Rattle.hilti_syntax.specs.declared.module.Bits.{Bits}
-use Rattle.hilti_syntax.specs.Items.{parameter_tree, parameters_tree, inside_tree, arguments_tree, bits_tree, form_tree, field_tree, fields_tree, words_tree, shape_tree}
-use Rattle.hilti_syntax.specs.Spelled.{ModuleTree, keyword_at, word_tree, number_tree, spelled_at, behind_mark, between_marks, maybe_tree, name_tree}
-use Rattle.hilti_syntax.specs.Trees.{type_tree}
+use Rattle.hilti_kinds.specs.declared.kind.Kind.TheVariants as kinds
+use Rattle.hilti_module.specs.declared.types.TypeText.{TypeText}
+use Rattle.hilti_module.specs.declared.types.Word.{Word}
+use Rattle.hilti_module.specs.declared.types.Name.{Name}
+use Rattle.hilti_module.specs.declared.types.Number.{Number}
+use Rattle.hilti_module.specs.declared.module.Parameter.{Parameter}
+use Rattle.hilti_module.specs.declared.module.Shape.{Shape}
+use Rattle.hilti_module.specs.declared.module.Shape.TheVariants as shapes
+use Rattle.hilti_module.specs.declared.module.Field.{Field}
+use Rattle.hilti_module.specs.declared.module.Form.{Form}
+use Rattle.hilti_module.specs.declared.module.Form.TheVariants as forms
+use Rattle.hilti_module.specs.declared.module.Bits.{Bits}
+use Rattle.hilti_read_shapes.specs.Shapes.{parameter_tree, parameters_tree, inside_tree, arguments_tree, bits_tree, form_tree, field_tree, fields_tree, words_tree, shape_tree}
+use Rattle.hilti_reader.specs.Spelled.{ModuleTree, keyword_at, word_tree, number_tree, spelled_at, behind_mark, between_marks, maybe_tree, name_tree}
+use Rattle.hilti_read_types.specs.Trees.{type_tree}
 use Rattle.hilti_reading.proofs.Equal.{both, all_four}
-use Rattle.hilti_reading.proofs.Sequences.{separated_one, map_same}
+use Rattle.hilti_reading.proofs.Sequences.{separated}
 use Rattle.hilti_reading.proofs.Spots.{spelled_one, word_one, number_one, name_one}
 use Rattle.hilti_reading.proofs.Types.{one_type}
 
@@ -31,10 +30,6 @@ maybe_one f one None (Some b) e = cc
 maybe_one f one (Some a) None e = cc
 maybe_one f one (Some a) (Some b) e = ap Some (one a b (let here : f a ≡ f b = cc in here))
 
--- things with commas between them
-listed_one : {V : Type 0} (f : V → ModuleTree) → ((a b : V) → f a ≡ f b → a ≡ b) → (xs ys : List V) → separated_tree (map f xs) ≡ separated_tree (map f ys) → xs ≡ ys
-listed_one f one xs ys e = sym (map_same xs) ∙ (separated_one f f (λ x. x) (λ x. x) one xs ys e ∙ map_same ys)
-
 abbrev parameter_of : TypeText → Word → Parameter
 parameter_of kind name = record { kind = kind; name = name }
 
@@ -44,7 +39,7 @@ parameter_one a b e =
     (word_one a.name b.name (let here : word_tree a.name ≡ word_tree b.name = cc in here))
 
 pub parameters_one : (xs ys : List Parameter) → parameters_tree xs ≡ parameters_tree ys → xs ≡ ys
-parameters_one xs ys e = listed_one parameter_tree parameter_one xs ys e
+parameters_one xs ys e = separated parameter_tree parameter_one xs ys e
 
 inside_one : (xs ys : List Parameter) → inside_tree xs ≡ inside_tree ys → xs ≡ ys
 inside_one [] [] e = refl
@@ -121,10 +116,10 @@ shape_one (shapes.Struct p xs) (shapes.Struct q ys) e =
     (parameters_one xs ys (let here : parameters_tree xs ≡ parameters_tree ys = cc in here))
 shape_one (shapes.Enum p xs) (shapes.Enum q ys) e =
     both (λ place words. shapes.Enum place words) (spelled_one p q _ _ (let here : keyword_at p kinds.Enum ≡ keyword_at q kinds.Enum = cc in here)).0
-    (listed_one word_tree word_one xs ys (let here : words_tree xs ≡ words_tree ys = cc in here))
+    (separated word_tree word_one xs ys (let here : words_tree xs ≡ words_tree ys = cc in here))
 shape_one (shapes.Overlay p xs) (shapes.Overlay q ys) e =
     both (λ place fields. shapes.Overlay place fields) (spelled_one p q _ _ (let here : keyword_at p kinds.Overlay ≡ keyword_at q kinds.Overlay = cc in here)).0
-    (listed_one field_tree field_one xs ys (let here : fields_tree xs ≡ fields_tree ys = cc in here))
+    (separated field_tree field_one xs ys (let here : fields_tree xs ≡ fields_tree ys = cc in here))
 shape_one (shapes.Exception p a) (shapes.Exception q b) e =
     both (λ place parent. shapes.Exception place parent) (spelled_one p q _ _ (let here : keyword_at p kinds.Exception ≡ keyword_at q kinds.Exception = cc in here)).0
     (parent_one a b cc)

@@ -1,27 +1,26 @@
--- Trees of operands without parentheses tell which operand they are of, but for the two ways to hold `bytes`.
+-- Trees of operands without parentheses tell which operand they are of.
 use Rattle.std.proofs.Common.{◌≡◌, refl, sym, ap, subst}
 use Rattle.std.specs.Prelude.{Option, Some, None}
 use Rattle.hilti_base.specs.declared.names.Place.{Place}
 use Rattle.hilti_lexer.specs.declared.token.TokenKind.{TokenKind}
 use Rattle.hilti_lexer.specs.declared.token.TokenKind.TheVariants as tokens
 use Rattle.hilti_grammar.specs.Grammar.{Tree.Spot, Tree.Pair, Tree.Left, Tree.Right}
-use Rattle.hilti_syntax.specs.declared.kind.Kind.{Kind}
-use Rattle.hilti_syntax.specs.declared.kind.Kind.TheVariants as kinds
-use Rattle.hilti_syntax.specs.declared.types.Word.{Word}
-use Rattle.hilti_syntax.specs.declared.types.Name.{Name}
-use Rattle.hilti_syntax.specs.declared.types.Container.{Container}
-use Rattle.hilti_syntax.specs.declared.types.Parametric.{Parametric}
-use Rattle.hilti_syntax.specs.declared.types.PlainType.TheVariants as plain
-use Rattle.hilti_syntax.specs.declared.types.PlainInner.TheVariants as inner
-use Rattle.hilti_syntax.specs.declared.module.Literal.TheVariants as literals
-use Rattle.hilti_syntax.specs.declared.module.Seconds.{Seconds}
-use Rattle.hilti_syntax.specs.declared.module.Simple.{Simple}
-use Rattle.hilti_syntax.specs.declared.module.Simple.TheVariants as simples
-use Rattle.hilti_syntax.specs.Kinds.{kind_of}
-use Rattle.hilti_syntax.specs.Spelled.{ModuleTree, between_marks, word_tree, behind_word, name_tree}
-use Rattle.hilti_syntax.specs.Trees.{container_tree, parametric_tree}
-use Rattle.hilti_syntax.specs.Items.{seconds_tree, simple_tree}
-use Rattle.hilti_reading.specs.Settled.{settled_simple}
+use Rattle.hilti_kinds.specs.declared.kind.Kind.{Kind}
+use Rattle.hilti_kinds.specs.declared.kind.Kind.TheVariants as kinds
+use Rattle.hilti_module.specs.declared.types.Word.{Word}
+use Rattle.hilti_module.specs.declared.types.Name.{Name}
+use Rattle.hilti_module.specs.declared.types.Container.{Container}
+use Rattle.hilti_module.specs.declared.types.Parametric.{Parametric}
+use Rattle.hilti_module.specs.declared.types.PlainType.TheVariants as plain
+use Rattle.hilti_module.specs.declared.module.Literal.TheVariants as literals
+use Rattle.hilti_module.specs.declared.module.Seconds.{Seconds}
+use Rattle.hilti_module.specs.declared.module.Simple.{Simple}
+use Rattle.hilti_module.specs.declared.module.Simple.TheVariants as simples
+use Rattle.hilti_kinds.specs.Kinds.{kind_of}
+use Rattle.hilti_reader.specs.Spelled.{ModuleTree, between_marks, word_tree, behind_word, name_tree}
+use Rattle.hilti_read_types.specs.Trees.{container_tree, parametric_tree}
+use Rattle.hilti_read_literals.specs.Literals.{seconds_tree}
+use Rattle.hilti_read_operands.specs.Operands.{simple_tree}
 use Rattle.hilti_reading.proofs.Equal.{both}
 use Rattle.hilti_reading.proofs.Literals.{IsFound, between_seconds_one, behind_word_one}
 use Rattle.hilti_reading.proofs.Spots.{word_one, name_one}
@@ -39,8 +38,8 @@ word_simple place kinds.Addr = Some (simples.Plain place plain.Addr)
 word_simple place kinds.Net = Some (simples.Plain place plain.Net)
 word_simple place kinds.Port = Some (simples.Plain place plain.Port)
 word_simple place kinds.Callable = Some (simples.Plain place plain.Callable)
-word_simple place kinds.Timer = Some (simples.Inner place inner.Timer)
-word_simple place kinds.TimerMgr = Some (simples.Inner place inner.Manager)
+word_simple place kinds.Timer = Some (simples.Timer place)
+word_simple place kinds.TimerMgr = Some (simples.Manager place)
 word_simple place _ = None
 
 -- the operand of one token
@@ -57,25 +56,25 @@ spot_simple place _ = None
 
 -- an operand that begins with `time` or `interval`
 abbrev SaysTime : Place → Kind → ModuleTree → Simple → Type 0
-SaysTime place kinds.Time (Left number) s = (n : Seconds) → between_marks (seconds_tree n) ≡ number → settled_simple s ≡ simples.Literal (literals.Time place n)
-SaysTime place kinds.Time (Right none) s = settled_simple s ≡ simples.Plain place plain.Time
-SaysTime place kinds.Interval (Left number) s = (n : Seconds) → between_marks (seconds_tree n) ≡ number → settled_simple s ≡ simples.Literal (literals.Interval place n)
-SaysTime place kinds.Interval (Right none) s = settled_simple s ≡ simples.Plain place plain.Interval
+SaysTime place kinds.Time (Left number) s = (n : Seconds) → between_marks (seconds_tree n) ≡ number → s ≡ simples.Literal (literals.Time place n)
+SaysTime place kinds.Time (Right none) s = s ≡ simples.Plain place plain.Time
+SaysTime place kinds.Interval (Left number) s = (n : Seconds) → between_marks (seconds_tree n) ≡ number → s ≡ simples.Literal (literals.Interval place n)
+SaysTime place kinds.Interval (Right none) s = s ≡ simples.Plain place plain.Interval
 SaysTime place _ number s = Unit {0}
 
 -- what stands behind a name
 abbrev SaysName : ModuleTree → ModuleTree → Simple → Type 0
-SaysName name (Left constant) s = (n : Name) (w : Word) → name_tree n ≡ name → behind_word w ≡ constant → settled_simple s ≡ simples.Literal (literals.Constant n w)
-SaysName name (Right none) s = (n : Name) → name_tree n ≡ name → settled_simple s ≡ simples.Name n
+SaysName name (Left constant) s = (n : Name) (w : Word) → name_tree n ≡ name → behind_word w ≡ constant → s ≡ simples.Literal (literals.Constant n w)
+SaysName name (Right none) s = (n : Name) → name_tree n ≡ name → s ≡ simples.Name n
 SaysName name _ s = Unit {0}
 
 -- what the tree of an operand says of it
 abbrev Says : ModuleTree → Simple → Type 0
 Says (Left (Pair (Spot token) number)) s = SaysTime token.place (kind_of token.kind) number s
-Says (Right (Left (Spot token))) s = IsFound (spot_simple token.place token.kind) (settled_simple s)
-Says (Right (Right (Left (Pair (Spot token) word)))) s = (w : Word) → word_tree w ≡ word → settled_simple s ≡ simples.Label token.place w
-Says (Right (Right (Right (Left parametric)))) s = (p : Parametric) → parametric_tree p ≡ parametric → settled_simple s ≡ simples.Parametric p
-Says (Right (Right (Right (Right (Left container))))) s = (c : Container) → container_tree c ≡ container → settled_simple s ≡ simples.Container c
+Says (Right (Left (Spot token))) s = IsFound (spot_simple token.place token.kind) s
+Says (Right (Right (Left (Pair (Spot token) word)))) s = (w : Word) → word_tree w ≡ word → s ≡ simples.Label token.place w
+Says (Right (Right (Right (Left parametric)))) s = (p : Parametric) → parametric_tree p ≡ parametric → s ≡ simples.Parametric p
+Says (Right (Right (Right (Right (Left container))))) s = (c : Container) → container_tree c ≡ container → s ≡ simples.Container c
 Says (Right (Right (Right (Right (Right (Pair name behind)))))) s = SaysName name behind s
 Says _ s = Unit {0}
 
@@ -105,12 +104,11 @@ says (simples.Plain place plain.Time) = refl
 says (simples.Plain place plain.Interval) = refl
 says (simples.Plain place plain.Callable) = refl
 says (simples.Parametric parametric) = λ p e. ap (λ p. simples.Parametric p) (one_parametric parametric p (sym e))
-says (simples.Inner place inner.Bytes) = refl
-says (simples.Inner place inner.Timer) = refl
-says (simples.Inner place inner.Manager) = refl
+says (simples.Timer place) = refl
+says (simples.Manager place) = refl
 says (simples.Container container) = λ c e. ap (λ c. simples.Container c) (one_container container c (sym e))
 
-told : (a b : Simple) → Says (simple_tree a) b → settled_simple b ≡ settled_simple a
+told : (a b : Simple) → Says (simple_tree a) b → b ≡ a
 told (simples.Literal (literals.Number number)) b h = h
 told (simples.Literal (literals.Address place bits)) b h = h
 told (simples.Literal (literals.Net place bits length)) b h = h
@@ -136,10 +134,9 @@ told (simples.Plain place plain.Time) b h = h
 told (simples.Plain place plain.Interval) b h = h
 told (simples.Plain place plain.Callable) b h = h
 told (simples.Parametric parametric) b h = h parametric refl
-told (simples.Inner place inner.Bytes) b h = h
-told (simples.Inner place inner.Timer) b h = h
-told (simples.Inner place inner.Manager) b h = h
+told (simples.Timer place) b h = h
+told (simples.Manager place) b h = h
 told (simples.Container container) b h = h container refl
 
-pub simple_one : (a b : Simple) → simple_tree a ≡ simple_tree b → settled_simple a ≡ settled_simple b
+pub simple_one : (a b : Simple) → simple_tree a ≡ simple_tree b → a ≡ b
 simple_one a b e = sym (told a b (subst (λ tree. Says tree b) (sym e) (says b)))

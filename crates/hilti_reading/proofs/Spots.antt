@@ -6,19 +6,21 @@ use Rattle.hilti_lexer.specs.declared.token.Token.{Token}
 use Rattle.hilti_lexer.specs.declared.token.TokenKind.{TokenKind}
 use Rattle.hilti_lexer.specs.declared.token.TokenKind.TheVariants as tokens
 use Rattle.hilti_grammar.specs.Grammar.{Tree.Spot}
-use Rattle.hilti_syntax.specs.declared.types.Word.{Word}
-use Rattle.hilti_syntax.specs.declared.types.Name.{Name}
-use Rattle.hilti_syntax.specs.declared.types.Number.{Number}
-use Rattle.hilti_syntax.specs.declared.types.PlainType.{PlainType}
-use Rattle.hilti_syntax.specs.declared.types.PlainType.TheVariants as plain
-use Rattle.hilti_syntax.specs.declared.types.PlainInner.{PlainInner}
-use Rattle.hilti_syntax.specs.declared.types.PlainInner.TheVariants as inner
-use Rattle.hilti_syntax.specs.declared.types.Single.{Single}
-use Rattle.hilti_syntax.specs.declared.types.Single.TheVariants as single
-use Rattle.hilti_syntax.specs.declared.types.Double.{Double}
-use Rattle.hilti_syntax.specs.declared.types.Double.TheVariants as double
-use Rattle.hilti_syntax.specs.Kinds.{spelled, look_up, keyword_kinds}
-use Rattle.hilti_syntax.specs.Spelled.{ModuleTree, plain_kind, plain_of, inner_kind, inner_of, single_kind, single_of, double_kind, double_of, at_place, spelled_at, word_tree, number_tree, maybe_tree, behind_word, name_tree}
+use Rattle.hilti_module.specs.declared.types.Word.{Word}
+use Rattle.hilti_module.specs.declared.types.Name.{Name}
+use Rattle.hilti_module.specs.declared.types.Number.{Number}
+use Rattle.hilti_module.specs.declared.types.PlainType.{PlainType}
+use Rattle.hilti_module.specs.declared.types.PlainType.TheVariants as plain
+use Rattle.hilti_module.specs.declared.types.PlainInner.{PlainInner}
+use Rattle.hilti_module.specs.declared.types.PlainInner.TheVariants as inner
+use Rattle.hilti_module.specs.declared.types.Single.{Single}
+use Rattle.hilti_module.specs.declared.types.Single.TheVariants as single
+use Rattle.hilti_module.specs.declared.types.Double.{Double}
+use Rattle.hilti_module.specs.declared.types.Double.TheVariants as double
+use Rattle.hilti_kinds.specs.declared.kind.Kind.{Kind}
+use Rattle.hilti_kinds.specs.declared.kind.Kind.TheVariants as kinds
+use Rattle.hilti_kinds.specs.Kinds.{spelled, look_up, keyword_kinds}
+use Rattle.hilti_reader.specs.Spelled.{ModuleTree, plain_kind, inner_kind, single_kind, double_kind, at_place, spelled_at, word_tree, number_tree, maybe_tree, behind_word, name_tree}
 use Rattle.hilti_reading.proofs.Equal.{both}
 
 pub spot_one : (p q : Place) (k l : TokenKind) → at_place p k ≡ at_place q l → (p ≡ q) × (k ≡ l)
@@ -64,6 +66,36 @@ name_one a b e =
 
 some_one : {V : Type 0} (a b : V) → Some a ≡ Some b → a ≡ b
 some_one a b e = cc
+
+-- what the words of some kinds mean
+abbrev plain_of : Kind → Option PlainType
+plain_of kinds.Bool = Some plain.Bool
+plain_of kinds.String = Some plain.Text
+plain_of kinds.Bytes = Some plain.Bytes
+plain_of kinds.Addr = Some plain.Addr
+plain_of kinds.Net = Some plain.Net
+plain_of kinds.Port = Some plain.Port
+plain_of kinds.Time = Some plain.Time
+plain_of kinds.Interval = Some plain.Interval
+plain_of kinds.Callable = Some plain.Callable
+plain_of _ = None
+
+abbrev inner_of : Kind → Option PlainInner
+inner_of kinds.Bytes = Some inner.Bytes
+inner_of kinds.Timer = Some inner.Timer
+inner_of kinds.TimerMgr = Some inner.Manager
+inner_of _ = None
+
+abbrev single_of : Kind → Option Single
+single_of kinds.List = Some single.List
+single_of kinds.Vector = Some single.Vector
+single_of kinds.Set = Some single.Set
+single_of _ = None
+
+abbrev double_of : Kind → Option Double
+double_of kinds.Map = Some double.Map
+double_of kinds.Classifier = Some double.Classifier
+double_of _ = None
 
 plain_back : (a : PlainType) → plain_of (look_up keyword_kinds (spelled (plain_kind a))) ≡ Some a
 plain_back plain.Bool = refl

@@ -2,15 +2,15 @@
 use Rattle.std.proofs.Common.{◌≡◌, List, [], ◌∷◌, refl, sym, ◌∙◌, ap, subst}
 use Rattle.std.specs.Prelude.{map}
 use Rattle.hilti_grammar.specs.Reads.{separated_tree}
-use Rattle.hilti_syntax.specs.declared.types.TypeText.{TypeText, roll-TypeText}
-use Rattle.hilti_syntax.specs.declared.types.Container.{Container, roll-Container}
-use Rattle.hilti_syntax.specs.declared.types.InnerText.{InnerText, roll-InnerText}
-use Rattle.hilti_syntax.specs.declared.types.Parametric.{Parametric, roll-Parametric}
-use Rattle.hilti_syntax.specs.declared.types.Container.TheFolds.{ind-Container, ind-InnerText, ind-Parametric, ind-TypeText, fold-roll-Container, fold-roll-InnerText, fold-roll-Parametric, fold-roll-TypeText, map-Container, map-InnerText, map-Parametric, map-TypeText}
-use Rattle.hilti_syntax.specs.declared.types.Container.TheOpen.{Container-F, InnerText-F, Parametric-F, TypeText-F}
-use Rattle.hilti_syntax.specs.declared.kind.Kind.TheVariants as kinds
-use Rattle.hilti_syntax.specs.Spelled.{ModuleTree, plain_kind, inner_kind, single_kind, double_kind, keyword_at}
-use Rattle.hilti_syntax.specs.Trees.{container_step, inner_step, parametric_step, type_step, container_tree, inner_tree, parametric_tree, type_tree}
+use Rattle.hilti_module.specs.declared.types.TypeText.{TypeText, roll-TypeText}
+use Rattle.hilti_module.specs.declared.types.Container.{Container, roll-Container}
+use Rattle.hilti_module.specs.declared.types.InnerText.{InnerText, roll-InnerText}
+use Rattle.hilti_module.specs.declared.types.Parametric.{Parametric, roll-Parametric}
+use Rattle.hilti_module.specs.declared.types.Container.TheFolds.{ind-Container, ind-InnerText, ind-Parametric, ind-TypeText, fold-roll-Container, fold-roll-InnerText, fold-roll-Parametric, fold-roll-TypeText, map-Container, map-InnerText, map-Parametric, map-TypeText}
+use Rattle.hilti_module.specs.declared.types.Container.TheOpen.{Container-F, InnerText-F, Parametric-F, TypeText-F}
+use Rattle.hilti_kinds.specs.declared.kind.Kind.TheVariants as kinds
+use Rattle.hilti_reader.specs.Spelled.{ModuleTree, plain_kind, inner_kind, single_kind, double_kind, keyword_at}
+use Rattle.hilti_read_types.specs.Trees.{container_step, inner_step, parametric_step, type_step, container_tree, inner_tree, parametric_tree, type_tree}
 use Rattle.hilti_reading.proofs.Equal.{both, all_three, all_four}
 use Rattle.hilti_reading.proofs.Spots.{spelled_one, name_one, number_one, plain_one, inner_one, single_one, double_one}
 use Rattle.hilti_reading.proofs.Sequences.{separated_one, map_same}

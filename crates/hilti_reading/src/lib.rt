@@ -1,5 +1,9 @@
-//! Laws over what a text is: at most one module, but for the two ways to hold an operand `bytes`, or refused once. It has
-//! no code but laws, whose clauses say the theorems.
+//! Laws over what a text is: at most one module, or refused once. It has no code but laws, whose
+//! clauses say the theorems.
 #![tactic(auto)]
 
 pub mod laws;
+#[cfg(test)]
+mod link_tests;
+#[cfg(test)]
+mod scope_tests;

@@ -1,8 +1,8 @@
 -- Whether the parts of two lists say the same, found one after another; and what a reference and a tuple say.
 use Rattle.std.proofs.Common.{◌≡◌, refl, sym, ◌∙◌, ap, ℕ, ◌+◌, ◌<◌, List, [], ◌∷◌, ◌++◌, length, map, take, get_or}
 use Rattle.std.proofs.lemmas.List.{get_or-map, map_more}
-use Rattle.hilti_syntax.specs.declared.types.PlainType.{PlainType}
-use Rattle.hilti_syntax.specs.declared.types.PlainInner.TheVariants as words
+use Rattle.hilti_module.specs.declared.types.PlainType.{PlainType}
+use Rattle.hilti_module.specs.declared.types.PlainInner.TheVariants as words
 use Rattle.hilti_resolve.specs.Written.{Written, Plain, Int, Tuple, NoPart, Part, Iterator, Ref, InnerWord, One, Two, Named, parts_of, reference_to}
 
 module _ {X W : Type 0} (f g : X → W) where

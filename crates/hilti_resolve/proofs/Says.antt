@@ -1,14 +1,14 @@
 -- What each form of a written type says.
 use Rattle.std.proofs.Common.{◌≡◌, ◌∙◌, sym, ap, List, map, rules}
 use Rattle.hilti_base.specs.declared.names.Place.{Place}
-use Rattle.hilti_syntax.specs.declared.types.Name.{Name}
-use Rattle.hilti_syntax.specs.declared.types.TypeText.{TypeText}
-use Rattle.hilti_syntax.specs.declared.types.TypeText.TheVariants as texts
-use Rattle.hilti_syntax.specs.declared.types.InnerText.{InnerText}
-use Rattle.hilti_syntax.specs.declared.types.Parametric.{Parametric}
-use Rattle.hilti_syntax.specs.declared.types.Parametric.TheVariants as parametrics
-use Rattle.hilti_syntax.specs.declared.types.Container.TheFolds.{the_lemmas}
-use Rattle.hilti_syntax.specs.declared.types.PlainType.{PlainType}
+use Rattle.hilti_module.specs.declared.types.Name.{Name}
+use Rattle.hilti_module.specs.declared.types.TypeText.{TypeText}
+use Rattle.hilti_module.specs.declared.types.TypeText.TheVariants as texts
+use Rattle.hilti_module.specs.declared.types.InnerText.{InnerText}
+use Rattle.hilti_module.specs.declared.types.Parametric.{Parametric}
+use Rattle.hilti_module.specs.declared.types.Parametric.TheVariants as parametrics
+use Rattle.hilti_module.specs.declared.types.Container.TheFolds.{the_lemmas}
+use Rattle.hilti_module.specs.declared.types.PlainType.{PlainType}
 use Rattle.hilti_scope.specs.declared.meaning.Meaning.{Meaning}
 use Rattle.hilti_resolve.specs.Written.{Plain, Tuple, says, parametric_writes, inner_writes, parts_of, reference_to}
 

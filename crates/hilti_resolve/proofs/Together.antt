@@ -3,7 +3,7 @@ use Rattle.std.proofs.Common.{◌≡◌, refl, sym, ◌∙◌, ap, ℕ, ◌+◌,
 use Rattle.std.proofs.lemmas.List.{at_drop_more, at_drop_all}
 use Rattle.hilti_base.specs.declared.names.Place.{Place}
 use Rattle.hilti_types.specs.declared.value_type.ValueType.{ValueType}
-use Rattle.hilti_resolve.specs.Values.{all_of, behind}
+use Rattle.hilti_resolve.specs.Values.{Read, all_of, behind, in_front}
 
 -- what is found so far, and what is left
 abbrev pub ahead : List ValueType → Result (List ValueType) Place → Result (List ValueType) Place
@@ -19,7 +19,7 @@ ahead_one : (values : List ValueType) (value : ValueType) (rest : Result (List V
 ahead_one values value (Err place) = refl
 ahead_one values value (Ok more) = ap Ok (sym (append_assoc values (value ∷ []) more))
 
-module _ {X : Type 0} (told : X → Result ValueType Place) where
+module _ {X : Type 0} (told : X → Read ValueType) where
   abbrev pub all_told : List X → Result (List ValueType) Place
   all_told parts = all_of (map told parts)
 
@@ -27,17 +27,15 @@ module _ {X : Type 0} (told : X → Result ValueType Place) where
   unfolding all_of
   none_left = refl
 
-  with_value : (first : Result ValueType Place) (rest : List (Result ValueType Place)) (value : ValueType) → first ≡ Ok value
+  with_value : (first : Read ValueType) (rest : List (Read ValueType)) (value : ValueType) → first.stands ≡ Ok value
       → all_of (first ∷ rest) ≡ behind value (all_of rest)
   unfolding all_of
-  with_value (Ok first) rest value is = cc
-  with_value (Err place) rest value is = cc
+  with_value first rest value is = ap (λ stands. in_front stands (all_of rest)) is
 
-  with_fault : (first : Result ValueType Place) (rest : List (Result ValueType Place)) (place : Place) → first ≡ Err place
+  with_fault : (first : Read ValueType) (rest : List (Read ValueType)) (place : Place) → first.stands ≡ Err place
       → all_of (first ∷ rest) ≡ Err place
   unfolding all_of
-  with_fault (Ok first) rest place is = cc
-  with_fault (Err other) rest place is = cc
+  with_fault first rest place is = ap (λ stands. in_front stands (all_of rest)) is
 
   here : (items : List X) (at : ℕ) (part : X) → at < length items → part ≡ get_or items at part
       → all_told (drop at items) ≡ all_of (told part ∷ map told (drop (at + 1) items))
@@ -51,7 +49,7 @@ module _ {X : Type 0} (told : X → Result ValueType Place) where
 
   -- this part stands for a type
   pub together_more : (all : Result (List ValueType) Place) (values : List ValueType) (items : List X) (at : ℕ) (part : X) (value : ValueType)
-      → at < length items → part ≡ get_or items at part → ahead values (all_told (drop at items)) ≡ all → told part ≡ Ok value
+      → at < length items → part ≡ get_or items at part → ahead values (all_told (drop at items)) ≡ all → (told part).stands ≡ Ok value
       → ahead (values ++ value ∷ []) (all_told (drop (at + 1) items)) ≡ all
   together_more all values items at part value below is so_far stands =
       sym (ahead_one values value (all_told (drop (at + 1) items)))
@@ -60,7 +58,7 @@ module _ {X : Type 0} (told : X → Result ValueType Place) where
 
   -- this part has a fault
   pub together_fails : (all : Result (List ValueType) Place) (values : List ValueType) (items : List X) (at : ℕ) (part : X) (place : Place)
-      → at < length items → part ≡ get_or items at part → ahead values (all_told (drop at items)) ≡ all → told part ≡ Err place
+      → at < length items → part ≡ get_or items at part → ahead values (all_told (drop at items)) ≡ all → (told part).stands ≡ Err place
       → all ≡ Err place
   together_fails all values items at part place below is so_far fault =
       sym so_far

@@ -3,17 +3,20 @@ use Rattle.std.specs.Prelude.{ℕ, ◌+◌, max, List}
 use Rattle.std.specs.List.{slice_get}
 use Rattle.std.specs.Option.{unwrap_or}
 use Rattle.hilti_types.specs.Depths.{greatest}
-use Rattle.hilti_syntax.specs.declared.types.Name.{Name}
-use Rattle.hilti_syntax.specs.declared.types.TypeText.{TypeText}
-use Rattle.hilti_syntax.specs.declared.types.InnerText.{InnerText}
-use Rattle.hilti_syntax.specs.declared.types.Container.{Container}
-use Rattle.hilti_syntax.specs.declared.types.Parametric.{Parametric}
-use Rattle.hilti_syntax.specs.declared.types.Container.TheOpen.{Container-F, InnerText-F, Parametric-F, TypeText-F}
-use Rattle.hilti_syntax.specs.declared.types.Container.TheFolds.{fold-Container, fold-InnerText, fold-Parametric, fold-TypeText}
+use Rattle.hilti_module.specs.declared.types.Name.{Name}
+use Rattle.hilti_module.specs.declared.types.TypeText.{TypeText}
+use Rattle.hilti_module.specs.declared.types.InnerText.{InnerText}
+use Rattle.hilti_module.specs.declared.types.Container.{Container}
+use Rattle.hilti_module.specs.declared.types.Parametric.{Parametric}
+use Rattle.hilti_module.specs.declared.types.Container.TheOpen.{Container-F, InnerText-F}
+use Rattle.hilti_module.specs.declared.types.Container.TheOpen.{Parametric-F, TypeText-F}
+use Rattle.hilti_module.specs.declared.types.Container.TheFolds.{fold-Container, fold-InnerText}
+use Rattle.hilti_module.specs.declared.types.Container.TheFolds.{fold-Parametric, fold-TypeText}
 use Rattle.hilti_scope.specs.declared.meaning.Meaning.{Meaning}
 use Rattle.hilti_scope.specs.declared.meaning.Meaning.TheVariants.{Struct}
 
--- a name is as deep as the struct that it means, and else has depth 1; `depths` tells of each declared type how deep it is
+-- a name is as deep as the struct that it means, and else has depth 1; `depths` tells of each
+-- declared type how deep it is
 abbrev pub meaning_depth : List ℕ → Meaning → ℕ
 meaning_depth depths (Struct n) = unwrap_or (slice_get depths n) 1
 meaning_depth depths _ = 1
@@ -40,13 +43,21 @@ type_depth depths mean (TypeText-F.Named name) = meaning_depth depths (mean name
 
 -- how deep a written type nests
 abbrev pub written_depth : List ℕ → (Name → Meaning) → TypeText → ℕ
-written_depth depths mean = fold-TypeText ℕ ℕ ℕ ℕ container_depth (inner_depth depths mean) parametric_depth (type_depth depths mean)
+written_depth depths mean =
+    fold-TypeText ℕ ℕ ℕ ℕ container_depth (inner_depth depths mean) parametric_depth
+    (type_depth depths mean)
 
 abbrev pub written_parametric_depth : List ℕ → (Name → Meaning) → Parametric → ℕ
-written_parametric_depth depths mean = fold-Parametric ℕ ℕ ℕ ℕ container_depth (inner_depth depths mean) parametric_depth (type_depth depths mean)
+written_parametric_depth depths mean =
+    fold-Parametric ℕ ℕ ℕ ℕ container_depth (inner_depth depths mean) parametric_depth
+    (type_depth depths mean)
 
 abbrev pub written_inner_depth : List ℕ → (Name → Meaning) → InnerText → ℕ
-written_inner_depth depths mean = fold-InnerText ℕ ℕ ℕ ℕ container_depth (inner_depth depths mean) parametric_depth (type_depth depths mean)
+written_inner_depth depths mean =
+    fold-InnerText ℕ ℕ ℕ ℕ container_depth (inner_depth depths mean) parametric_depth
+    (type_depth depths mean)
 
 abbrev pub written_container_depth : List ℕ → (Name → Meaning) → Container → ℕ
-written_container_depth depths mean = fold-Container ℕ ℕ ℕ ℕ container_depth (inner_depth depths mean) parametric_depth (type_depth depths mean)
+written_container_depth depths mean =
+    fold-Container ℕ ℕ ℕ ℕ container_depth (inner_depth depths mean) parametric_depth
+    (type_depth depths mean)

@@ -1,8 +1,9 @@
 -- The forms of the fields of overlays.
-use Rattle.std.specs.Prelude.{ℕ, ◌==◌, ◌&&◌, nat_le, nat_lt, Bool, true, false, cond, codes, bytes_eq, List, Option, Some, None}
-use Rattle.hilti_syntax.specs.declared.module.Bits.{Bits}
-use Rattle.hilti_syntax.specs.declared.module.Form.{Form}
-use Rattle.hilti_syntax.specs.declared.module.Form.TheVariants as forms
+use Rattle.std.specs.Prelude.{ℕ, ◌==◌, ◌&&◌, nat_le, nat_lt, Bool, true, false, cond, codes}
+use Rattle.std.specs.Prelude.{bytes_eq, List, Option, Some, None}
+use Rattle.hilti_module.specs.declared.module.Bits.{Bits}
+use Rattle.hilti_module.specs.declared.module.Form.{Form}
+use Rattle.hilti_module.specs.declared.module.Form.TheVariants as forms
 use Rattle.hilti_types.specs.declared.value_type.ValueType.{ValueType}
 use Rattle.hilti_types.specs.declared.value_type.ValueType.TheVariants as types
 use Rattle.hilti_resolve.specs.declared.form.FieldForm.{FieldForm}
@@ -46,7 +47,8 @@ abbrev pub bits_in : ℕ → Option Bits → Option FieldForm
 bits_in width None = whole 0
 bits_in width (Some range) =
     cond (nat_le range.low.value range.high.value && nat_lt range.high.value width)
-    (Some (record { size = 0; bits = Some (record { 0 = range.low.value; 1 = range.high.value }) })) None
+    (Some (record { size = 0; bits = Some (record { 0 = range.low.value; 1 = range.high.value }) }))
+    None
 
 -- a word of addresses or ports takes no range of bits
 abbrev pub without_bits : Bool → Option Bits → Option FieldForm
@@ -61,8 +63,10 @@ word_form kind word None bits =
     cond (bytes_eq word (codes "IPv4")) (without_bits (is_addr kind) bits)
     (without_bits (is_port_form word && is_port kind) bits)
 
--- the form of a field of this type, or none where it breaks the rules: a form of numbers asks for an `int` of its width,
--- `IPv4` for an addr, `PortTCP` and `PortUDP` for a port, and `Bytes(n)`, with n at most 65,535, for bytes
+-- the form of a field of this type, or none where it breaks the rules: a form of numbers asks for
+-- an `int` of its width, `IPv4` for an addr, `PortTCP` and `PortUDP` for a port, and `Bytes(n)`,
+-- with n at most 65,535, for bytes
 abbrev pub form_of : ValueType → Form → Option FieldForm
-form_of kind (forms.Bytes place length) = cond (is_bytes kind && nat_le length.value 65535) (whole length.value) None
+form_of kind (forms.Bytes place length) =
+    cond (is_bytes kind && nat_le length.value 65535) (whole length.value) None
 form_of kind (forms.Word word bits) = word_form kind word.bytes (width_of word.bytes) bits

@@ -6,3 +6,6 @@ pub mod Written
 pub mod Forms
 pub mod Literals
 pub mod Same
+pub mod LiteralValues
+pub mod Containers
+pub mod Answering

@@ -1,16 +1,18 @@
 -- Whether what two written types say is the same, as a test.
 use Rattle.std.specs.Prelude.{ℕ, nat_eq, Bool, true, false, ◌&&◌, List, [], ◌∷◌}
-use Rattle.hilti_syntax.specs.declared.types.PlainType.{PlainType}
-use Rattle.hilti_syntax.specs.declared.types.PlainType.TheVariants as plain
-use Rattle.hilti_syntax.specs.declared.types.PlainInner.{PlainInner}
-use Rattle.hilti_syntax.specs.declared.types.PlainInner.TheVariants as words
-use Rattle.hilti_syntax.specs.declared.types.Single.{Single}
-use Rattle.hilti_syntax.specs.declared.types.Single.TheVariants as singles
-use Rattle.hilti_syntax.specs.declared.types.Double.{Double}
-use Rattle.hilti_syntax.specs.declared.types.Double.TheVariants as doubles
+use Rattle.hilti_module.specs.declared.types.PlainType.{PlainType}
+use Rattle.hilti_module.specs.declared.types.PlainType.TheVariants as plain
+use Rattle.hilti_module.specs.declared.types.PlainInner.{PlainInner}
+use Rattle.hilti_module.specs.declared.types.PlainInner.TheVariants as words
+use Rattle.hilti_module.specs.declared.types.Single.{Single}
+use Rattle.hilti_module.specs.declared.types.Single.TheVariants as singles
+use Rattle.hilti_module.specs.declared.types.Double.{Double}
+use Rattle.hilti_module.specs.declared.types.Double.TheVariants as doubles
 use Rattle.hilti_scope.specs.declared.meaning.Meaning.{Meaning}
 use Rattle.hilti_scope.specs.declared.meaning.Meaning.TheVariants as means
-use Rattle.hilti_resolve.specs.Written.{Written, Written.Plain, Written.Int, Written.Tuple, Written.NoPart, Written.Part, Written.Iterator, Written.Ref, Written.InnerWord, Written.One, Written.Two, Written.Named}
+use Rattle.hilti_resolve.specs.Written.{Written, Written.Plain, Written.Int, Written.Tuple}
+use Rattle.hilti_resolve.specs.Written.{Written.NoPart, Written.Part, Written.Iterator, Written.Ref}
+use Rattle.hilti_resolve.specs.Written.{Written.InnerWord, Written.One, Written.Two, Written.Named}
 
 abbrev pub plain_eq : PlainType → PlainType → Bool
 plain_eq plain.Bool plain.Bool = true
@@ -43,7 +45,7 @@ double_eq _ _ = false
 
 abbrev pub meaning_eq : Meaning → Meaning → Bool
 meaning_eq means.Nothing means.Nothing = true
-meaning_eq means.Local means.Local = true
+meaning_eq (means.Local slot) (means.Local other) = nat_eq slot other
 meaning_eq (means.Struct n) (means.Struct m) = nat_eq n m
 meaning_eq (means.Enum n) (means.Enum m) = nat_eq n m
 meaning_eq (means.Overlay n) (means.Overlay m) = nat_eq n m

@@ -1,19 +1,21 @@
--- What a written type says, also where it breaks the rules of types: its words, and the meanings of its names. Two written
--- types are the same where they say the same.
+-- What a written type says, also where it breaks the rules of types: its words, and the meanings of
+-- its names. Two written types are the same where they say the same.
 use Rattle.std.specs.Prelude.{ℕ, List, [], ◌∷◌}
-use Rattle.hilti_syntax.specs.declared.types.Name.{Name}
-use Rattle.hilti_syntax.specs.declared.types.TypeText.{TypeText}
-use Rattle.hilti_syntax.specs.declared.types.InnerText.{InnerText}
-use Rattle.hilti_syntax.specs.declared.types.Container.{Container}
-use Rattle.hilti_syntax.specs.declared.types.Parametric.{Parametric}
-use Rattle.hilti_syntax.specs.declared.types.PlainType.{PlainType}
-use Rattle.hilti_syntax.specs.declared.types.PlainType.TheVariants as plain
-use Rattle.hilti_syntax.specs.declared.types.PlainInner.{PlainInner}
-use Rattle.hilti_syntax.specs.declared.types.PlainInner.TheVariants as words
-use Rattle.hilti_syntax.specs.declared.types.Single.{Single}
-use Rattle.hilti_syntax.specs.declared.types.Double.{Double}
-use Rattle.hilti_syntax.specs.declared.types.Container.TheOpen.{Container-F, InnerText-F, Parametric-F, TypeText-F}
-use Rattle.hilti_syntax.specs.declared.types.Container.TheFolds.{fold-Container, fold-InnerText, fold-Parametric, fold-TypeText}
+use Rattle.hilti_module.specs.declared.types.Name.{Name}
+use Rattle.hilti_module.specs.declared.types.TypeText.{TypeText}
+use Rattle.hilti_module.specs.declared.types.InnerText.{InnerText}
+use Rattle.hilti_module.specs.declared.types.Container.{Container}
+use Rattle.hilti_module.specs.declared.types.Parametric.{Parametric}
+use Rattle.hilti_module.specs.declared.types.PlainType.{PlainType}
+use Rattle.hilti_module.specs.declared.types.PlainType.TheVariants as plain
+use Rattle.hilti_module.specs.declared.types.PlainInner.{PlainInner}
+use Rattle.hilti_module.specs.declared.types.PlainInner.TheVariants as words
+use Rattle.hilti_module.specs.declared.types.Single.{Single}
+use Rattle.hilti_module.specs.declared.types.Double.{Double}
+use Rattle.hilti_module.specs.declared.types.Container.TheOpen.{Container-F, InnerText-F}
+use Rattle.hilti_module.specs.declared.types.Container.TheOpen.{Parametric-F, TypeText-F}
+use Rattle.hilti_module.specs.declared.types.Container.TheFolds.{fold-Container, fold-InnerText}
+use Rattle.hilti_module.specs.declared.types.Container.TheFolds.{fold-Parametric, fold-TypeText}
 use Rattle.hilti_scope.specs.declared.meaning.Meaning.{Meaning}
 
 -- types by their words; the parts of a tuple are a list of `Part` that ends with `NoPart`
@@ -61,13 +63,21 @@ type_says mean (TypeText-F.Named name) = Named (mean name)
 
 -- what a written type says
 abbrev pub says : (Name → Meaning) → TypeText → Written
-says mean = fold-TypeText Written Written Written Written container_says (inner_says mean) parametric_says (type_says mean)
+says mean =
+    fold-TypeText Written Written Written Written container_says (inner_says mean) parametric_says
+    (type_says mean)
 
 abbrev pub parametric_writes : (Name → Meaning) → Parametric → Written
-parametric_writes mean = fold-Parametric Written Written Written Written container_says (inner_says mean) parametric_says (type_says mean)
+parametric_writes mean =
+    fold-Parametric Written Written Written Written container_says (inner_says mean) parametric_says
+    (type_says mean)
 
 abbrev pub inner_writes : (Name → Meaning) → InnerText → Written
-inner_writes mean = fold-InnerText Written Written Written Written container_says (inner_says mean) parametric_says (type_says mean)
+inner_writes mean =
+    fold-InnerText Written Written Written Written container_says (inner_says mean) parametric_says
+    (type_says mean)
 
 abbrev pub container_writes : (Name → Meaning) → Container → Written
-container_writes mean = fold-Container Written Written Written Written container_says (inner_says mean) parametric_says (type_says mean)
+container_writes mean =
+    fold-Container Written Written Written Written container_says (inner_says mean) parametric_says
+    (type_says mean)

@@ -7,7 +7,7 @@ use std::alloc::AllocError;
 /// Why no type stands for a written type.
 #[derive(Clone, Copy, Debug, PartialEq, Eq)]
 pub enum TypeFault {
-    /// The smallest part that breaks the rules of types stands at this place.
+    /// The first part that breaks the rules of types stands at this place.
     Broken { place: Place },
     NoMemory,
 }

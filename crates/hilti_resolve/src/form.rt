@@ -2,7 +2,7 @@
 ghost use Rattle.std.specs.Prelude.{◌≡◌, ◌&&◌, nat_le, cond, Some, None};
 ghost use Rattle.hilti_resolve.specs.Forms as forms;
 
-use hilti_syntax::{Bits, Form};
+use hilti_module::{Bits, Form};
 use hilti_types::ValueType;
 
 /// The most bytes that a form `Bytes(n)` may read.
@@ -34,7 +34,8 @@ pub fn field_form(kind: &ValueType, form: &Form) -> Option<FieldForm>
 
 /// The form `Bytes(length)` of a field of this type.
 fn bytes_form(kind: &ValueType, length: u64) -> Option<FieldForm>
-    ensures { result ≡ cond (forms.is_bytes kind.now && nat_le length 65535) (forms.whole length) None }
+    ensures { result
+        ≡ cond (forms.is_bytes kind.now && nat_le length 65535) (forms.whole length) None }
 {
     if matches!(kind, ValueType::Bytes) && length <= MOST_BYTES {
         Some(FieldForm {

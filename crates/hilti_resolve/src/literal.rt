@@ -5,8 +5,8 @@ ghost use Rattle.hilti_scope.specs.Scopes.{means};
 ghost use Rattle.hilti_resolve.specs.Literals as literals;
 
 use hilti_base::{Names, Place, Refusal};
+use hilti_module::{Literal, Number, Seconds};
 use hilti_scope::{Meaning, Scope};
-use hilti_syntax::{Literal, Number, Seconds};
 use hilti_types::{Declared, TypeTable, ValueType};
 
 /// The code of a name that means nothing.
@@ -133,7 +133,7 @@ fn check_seconds(fits: bool, place: Place, seconds: &Seconds) -> Option<Refusal>
 }
 
 /// The nanoseconds of a time or an interval.
-fn nanoseconds(seconds: &Seconds) -> u128
+pub fn nanoseconds(seconds: &Seconds) -> u128
     ensures { result ≡ literals.nanoseconds seconds.now }
 {
     match seconds {

@@ -1,15 +1,14 @@
 //! The rules of types, each over what its parts stand for; an error is the place of what breaks one. Nothing here takes
 //! memory.
-ghost use Rattle.std.specs.Prelude.{◌≡◌, Ok};
-ghost use Rattle.hilti_types.specs.declared.value_type.Inner.{out-Inner};
-ghost use Rattle.hilti_types.specs.declared.value_type.ValueType.{out-ValueType};
+ghost use Rattle.std.specs.Prelude.{◌≡◌, ◌&&◌, nat_le, Ok};
 ghost use Rattle.hilti_resolve.specs.Values as values;
+ghost use Rattle.hilti_resolve.specs.Values.{HasForm, MayTake};
 
 use crate::inner_value::InnerValue;
 use hilti_base::Place;
+use hilti_module::{Container, Double, InnerText, Parametric, PlainInner, PlainType, TypeText};
 use hilti_scope::Meaning;
-use hilti_syntax::{PlainInner, PlainType};
-use hilti_types::{Inner, ValueType, ValueTypes};
+use hilti_types::{Inner, ValueType};
 
 /// The type of one word.
 pub fn plain_value(plain: PlainType) -> ValueType
@@ -50,13 +49,12 @@ pub fn named_value(meaning: Meaning, place: Place) -> Result<ValueType, Place>
 }
 
 /// A name between `<` and `>` is an object's type where it means a struct.
-pub fn named_inner(meaning: Meaning, place: Place) -> Result<InnerValue, Place>
-    ensures { result ≡ values.named_inner meaning place }
+pub fn named_inner(meaning: Meaning) -> InnerValue
+    ensures { result ≡ values.named_inner meaning }
 {
     match meaning {
-        Meaning::Struct { n } => Ok(InnerValue::Object(Inner::Struct { n })),
-        Meaning::Enum { n: _ } => Ok(InnerValue::EnumName),
-        _ => Err(place),
+        Meaning::Struct { n } => InnerValue::Object(Inner::Struct { n }),
+        _ => InnerValue::NoObject,
     }
 }
 
@@ -73,40 +71,83 @@ pub fn int_value(place: Place, bits: u64) -> Result<ValueType, Place>
     }
 }
 
-/// A tuple has 1 to 8 parts.
-pub fn tuple_value(place: Place, parts: ValueTypes) -> Result<ValueType, Place>
-    ensures { result ≡ values.tuple_value place (Ok parts) }
+/// Whether a tuple may have so many parts.
+pub fn is_tuple_length(count: usize) -> bool
+    ensures { result ≡ (nat_le 1 count && nat_le count 8) }
 {
-    if parts.len() < 1 || parts.len() > 8 {
-        return Err(place);
-    }
-    Ok(ValueType::Tuple { parts })
+    1 <= count && count <= 8
 }
 
-/// An iterator goes over a list, vector, set or map.
+/// Whether a written type is a tuple.
+fn is_tuple(text: &TypeText) -> bool
+    ensures { HasForm values.read_of text.now result }
+{
+    match text {
+        TypeText::Plain { place: _, plain: _ } => false,
+        TypeText::Parametric(parametric) => is_tuple_text(parametric),
+        TypeText::Named(_) => false,
+    }
+}
+
+/// The same of a type with something between `<` and `>`.
+fn is_tuple_text(parametric: &Parametric) -> bool
+    ensures { HasForm values.parametric_read_of parametric.now result }
+{
+    match parametric {
+        Parametric::Int { place: _, bits: _ } => false,
+        Parametric::Tuple { place: _, parts: _ } => true,
+        Parametric::Iterator { place: _, over: _ } => false,
+        Parametric::Ref { place: _, to: _ } => false,
+    }
+}
+
+/// Whether a container may have a first type of this form: a rule of a classifier is a tuple.
+pub fn takes(double: Double, first: &TypeText) -> bool
+    ensures { MayTake double first.now result }
+{
+    match double {
+        Double::Map => true,
+        Double::Classifier => is_tuple(first),
+    }
+}
+
+/// Whether an iterator may go over what stands between `<` and `>`: a list, vector, set or map.
+pub fn is_walked(inner: &InnerText) -> bool
+    ensures { HasForm values.inner_read_of inner.now result }
+{
+    match inner {
+        InnerText::Word { place: _, word: _ } => false,
+        InnerText::Container(container) => is_walked_container(container),
+        InnerText::Declared(_) => false,
+    }
+}
+
+/// The same of a container.
+fn is_walked_container(container: &Container) -> bool
+    ensures { HasForm values.container_read_of container.now result }
+{
+    match container {
+        Container::Single {
+            place: _,
+            single: _,
+            item: _,
+        } => true,
+        Container::Double {
+            place: _,
+            double,
+            first: _,
+            second: _,
+        } => *double == Double::Map,
+    }
+}
+
+/// An iterator goes over an object.
 pub fn iterator_value(place: Place, over: InnerValue) -> Result<ValueType, Place>
-    ensures { result ≡ values.iterator_value place (Ok over) }
+    ensures { result ≡ values.iterator_over place (Ok over) }
 {
     match over {
-        InnerValue::Object(object) => {
-            if !is_walked(&object) {
-                return Err(place);
-            }
-            Ok(ValueType::Iter { over: object })
-        }
-        InnerValue::BytesWord | InnerValue::EnumName => Err(place),
-    }
-}
-
-/// Whether an iterator may go over an object of this type.
-fn is_walked(object: &Inner) -> bool
-    ensures { result ≡ values.is_walked (out-Inner object.now) }
-{
-    match object {
-        Inner::List { item: _ } | Inner::Vector { item: _ } | Inner::Set { item: _ } => true,
-        Inner::Map { key: _, value: _ } => true,
-        Inner::Timer | Inner::Manager | Inner::Struct { n: _ } => false,
-        Inner::Classifier { rule: _, value: _ } => false,
+        InnerValue::Object(object) => Ok(ValueType::Iter { over: object }),
+        InnerValue::BytesWord | InnerValue::NoObject => Err(place),
     }
 }
 
@@ -117,13 +158,6 @@ pub fn reference_value(place: Place, to: InnerValue) -> Result<ValueType, Place>
     match to {
         InnerValue::Object(object) => Ok(ValueType::Ref { to: object }),
         InnerValue::BytesWord => Ok(ValueType::Bytes),
-        InnerValue::EnumName => Err(place),
+        InnerValue::NoObject => Err(place),
     }
-}
-
-/// Whether a type is a tuple.
-pub fn is_tuple(kind: &ValueType) -> bool
-    ensures { result ≡ values.is_tuple (out-ValueType kind.now) }
-{
-    matches!(kind, ValueType::Tuple { .. })
 }

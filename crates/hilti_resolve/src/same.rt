@@ -1,15 +1,16 @@
 //! Whether written types say the same, each in its scope. Nothing here takes memory.
 ghost use Rattle.std.specs.Prelude.{◌≡◌, ◌↔◌, IsTrue, map};
-ghost use Rattle.hilti_syntax.specs.declared.types.Name.{Name};
-ghost use Rattle.hilti_syntax.specs.declared.types.PlainInner.TheVariants as words;
+ghost use Rattle.hilti_module.specs.declared.types.Name.{Name};
+ghost use Rattle.hilti_module.specs.declared.types.PlainInner.TheVariants as words;
 ghost use Rattle.hilti_scope.specs.declared.meaning.Meaning.{Meaning};
 ghost use Rattle.hilti_scope.specs.Scopes.{means};
-ghost use Rattle.hilti_resolve.specs.Written.{says, parametric_writes, inner_writes, container_writes, Plain, InnerWord};
+ghost use Rattle.hilti_resolve.specs.Written.{says, parametric_writes, inner_writes};
+ghost use Rattle.hilti_resolve.specs.Written.{container_writes, Plain, InnerWord};
 
-use hilti_scope::Scope;
-use hilti_syntax::{
+use hilti_module::{
     Container, InnerText, Name, Parametric, PlainInner, PlainType, TypeText, TypeTexts,
 };
+use hilti_scope::Scope;
 
 /// Whether two written types say the same.
 #[cycle(same)]
@@ -19,7 +20,8 @@ pub fn same_type(
     other_scope: &Scope<'_>,
     other: &TypeText,
 ) -> bool
-    ensures { IsTrue result ↔ (says (means scope.now) text.now ≡ says (means other_scope.now) other.now) }
+    ensures { IsTrue result
+        ↔ (says (means scope.now) text.now ≡ says (means other_scope.now) other.now) }
 {
     match text {
         TypeText::Plain { place: _, plain } => match other {
@@ -52,7 +54,9 @@ fn same_parametric(
     other_scope: &Scope<'_>,
     other: &Parametric,
 ) -> bool
-    ensures { IsTrue result ↔ (parametric_writes (means scope.now) parametric.now ≡ parametric_writes (means other_scope.now) other.now) }
+    ensures { IsTrue result
+        ↔ (parametric_writes (means scope.now) parametric.now ≡ parametric_writes
+        (means other_scope.now) other.now) }
 {
     match parametric {
         Parametric::Int { place: _, bits } => match other {
@@ -94,7 +98,9 @@ fn same_parts(
     other_scope: &Scope<'_>,
     others: &TypeTexts,
 ) -> bool
-    ensures { IsTrue result ↔ (map (says (means scope.now)) parts.now ≡ map (says (means other_scope.now)) others.now) }
+    ensures { IsTrue result
+        ↔ (map (says (means scope.now)) parts.now ≡ map (says (means other_scope.now))
+        others.now) }
 {
     let left = parts.as_slice();
     let right = others.as_slice();
@@ -117,7 +123,8 @@ fn same_inner(
     other_scope: &Scope<'_>,
     other: &InnerText,
 ) -> bool
-    ensures { IsTrue result ↔ (inner_writes (means scope.now) inner.now ≡ inner_writes (means other_scope.now) other.now) }
+    ensures { IsTrue result ↔ (inner_writes (means scope.now) inner.now ≡ inner_writes
+        (means other_scope.now) other.now) }
 {
     match inner {
         InnerText::Word { place: _, word } => match other {
@@ -148,7 +155,8 @@ fn same_container(
     other_scope: &Scope<'_>,
     other: &Container,
 ) -> bool
-    ensures { IsTrue result ↔ (container_writes (means scope.now) container.now ≡ container_writes (means other_scope.now) other.now) }
+    ensures { IsTrue result ↔ (container_writes (means scope.now) container.now ≡ container_writes
+        (means other_scope.now) other.now) }
 {
     match container {
         Container::Single {
@@ -196,7 +204,8 @@ fn same_name(scope: &Scope<'_>, name: &Name, other_scope: &Scope<'_>, other: &Na
 
 /// Whether a type with something between `<` and `>` is this type of one word: a reference to bytes is bytes.
 fn says_plain(parametric: &Parametric, plain: PlainType) -> bool
-    ensures { (mean : Name → Meaning) → IsTrue result ↔ (parametric_writes mean parametric.now ≡ Plain plain) }
+    ensures { (mean : Name → Meaning) → IsTrue result ↔
+        (parametric_writes mean parametric.now ≡ Plain plain) }
 {
     match parametric {
         Parametric::Ref { place: _, to } => plain == PlainType::Bytes && says_bytes(to),
@@ -206,7 +215,8 @@ fn says_plain(parametric: &Parametric, plain: PlainType) -> bool
 
 /// Whether the word `bytes` stands between the `<` and `>` of a reference.
 fn says_bytes(inner: &InnerText) -> bool
-    ensures { (mean : Name → Meaning) → IsTrue result ↔ (inner_writes mean inner.now ≡ InnerWord words.Bytes) }
+    ensures { (mean : Name → Meaning) → IsTrue result ↔
+        (inner_writes mean inner.now ≡ InnerWord words.Bytes) }
 {
     match inner {
         InnerText::Word { place: _, word } => *word == PlainInner::Bytes,

@@ -1,11 +1,14 @@
 //! The first name in a written type that means nothing. Nothing here takes memory.
 ghost use Rattle.std.specs.Prelude.{◌≡◌, map};
 ghost use Rattle.hilti_scope.specs.Scopes.{means};
-ghost use Rattle.hilti_resolve.specs.Names.{first_of, unknown_name as unknown_place, first_unknown as first_unknown_place, first_unknown_parametric, first_unknown_inner, first_unknown_container};
+ghost use Rattle.hilti_resolve.specs.Names.{first_of, unknown_name as unknown_place};
+ghost use Rattle.hilti_resolve.specs.Names.{first_unknown as first_unknown_place};
+ghost use Rattle.hilti_resolve.specs.Names.{first_unknown_parametric, first_unknown_inner};
+ghost use Rattle.hilti_resolve.specs.Names.{first_unknown_container};
 
 use hilti_base::Place;
+use hilti_module::{Container, InnerText, Name, Parametric, TypeText, TypeTexts};
 use hilti_scope::{Meaning, Scope};
-use hilti_syntax::{Container, InnerText, Name, Parametric, TypeText, TypeTexts};
 
 /// The place of the first name in a written type that means nothing.
 #[cycle(unknown)]

@@ -1,19 +1,21 @@
 //! The types that written types stand for, where these keep the rules of types.
-ghost use Rattle.std.specs.Prelude.{◌≡◌, Err, Ok, IfOk, map};
-ghost use Rattle.hilti_base.specs.declared.names.Place.{Place as APlace};
+ghost use Rattle.std.specs.Prelude.{Ok, map};
 ghost use Rattle.hilti_scope.specs.Scopes.{means};
-ghost use Rattle.hilti_resolve.specs.declared.fault.TypeFault.TheVariants.{Broken};
-ghost use Rattle.hilti_resolve.specs.Values.{all_of, value_of as value_told, parametric_value_of, inner_value_of, container_value_of, single_value as single_told, both_value as both_told};
+ghost use Rattle.hilti_resolve.specs.Answering.{BreaksAs, Gives, Makes};
+ghost use Rattle.hilti_resolve.specs.Values.{all_of, read_of, value_of as value_told};
+ghost use Rattle.hilti_resolve.specs.Values.{parametric_value_of, inner_value_of};
+ghost use Rattle.hilti_resolve.specs.Values.{container_value_of, single_value as single_told};
+ghost use Rattle.hilti_resolve.specs.Values.{object_of as object_told};
 
 use crate::fault::TypeFault;
 use crate::inner_value::InnerValue;
 use crate::rules::{
-    inner_word, int_value, is_tuple, iterator_value, named_inner, named_value, plain_value,
-    reference_value, tuple_value,
+    inner_word, int_value, is_tuple_length, is_walked, iterator_value, named_inner, named_value,
+    plain_value, reference_value, takes,
 };
-use hilti_base::Place;
+use hilti_base::{NoMemory, Place};
+use hilti_module::{Container, Double, InnerText, Parametric, Single, TypeText, TypeTexts};
 use hilti_scope::Scope;
-use hilti_syntax::{Container, Double, InnerText, Parametric, Single, TypeText, TypeTexts};
 use hilti_types::{Inner, TypeTable, ValueType, ValueTypes, is_key};
 use sqlite_items::Boxed;
 use std::alloc::Global;
@@ -26,8 +28,8 @@ pub fn value_of(
     table: &TypeTable,
     text: &TypeText,
 ) -> Result<ValueType, TypeFault>
-    ensures kind { IfOk result (λ kind. value_told table.now (means scope.now) text.now ≡ Ok kind) }
-    ensures broken { (place : APlace) → result ≡ Err (Broken place) → value_told table.now (means scope.now) text.now ≡ Err place }
+    ensures kind { Gives result (value_told table.now (means scope.now) text.now) }
+    ensures broken { BreaksAs result (value_told table.now (means scope.now) text.now) }
 {
     match text {
         TypeText::Plain { place: _, plain } => Ok(plain_value(*plain)),
@@ -46,16 +48,23 @@ pub fn parametric_value(
     table: &TypeTable,
     parametric: &Parametric,
 ) -> Result<ValueType, TypeFault>
-    ensures kind { IfOk result (λ kind. parametric_value_of table.now (means scope.now) parametric.now ≡ Ok kind) }
-    ensures broken { (place : APlace) → result ≡ Err (Broken place) → parametric_value_of table.now (means scope.now) parametric.now ≡ Err place }
+    ensures kind { Gives result (parametric_value_of table.now (means scope.now) parametric.now) }
+    ensures broken { BreaksAs result
+        (parametric_value_of table.now (means scope.now) parametric.now) }
 {
     match parametric {
         Parametric::Int { place, bits } => Ok(int_value(*place, bits.value)?),
         Parametric::Tuple { place, parts } => {
-            let values = part_values(alloc, scope, table, parts)?;
-            Ok(tuple_value(*place, values)?)
+            if !is_tuple_length(parts.len()) {
+                return Err(TypeFault::Broken { place: *place });
+            }
+            let parts = part_values(alloc, scope, table, parts)?;
+            Ok(ValueType::Tuple { parts })
         }
         Parametric::Iterator { place, over } => {
+            if !is_walked(over) {
+                return Err(TypeFault::Broken { place: *place });
+            }
             let container = inner_value(alloc, scope, table, over)?;
             Ok(iterator_value(*place, container)?)
         }
@@ -74,8 +83,9 @@ fn part_values(
     table: &TypeTable,
     parts: &TypeTexts,
 ) -> Result<ValueTypes, TypeFault>
-    ensures kinds { IfOk result (λ kinds. all_of (map (value_told table.now (means scope.now)) parts.now) ≡ Ok kinds) }
-    ensures broken { (place : APlace) → result ≡ Err (Broken place) → all_of (map (value_told table.now (means scope.now)) parts.now) ≡ Err place }
+    ensures kinds { Gives result (all_of (map (read_of table.now (means scope.now)) parts.now)) }
+    ensures broken { BreaksAs result
+        (all_of (map (read_of table.now (means scope.now)) parts.now)) }
 {
     let mut values = ValueTypes::new(alloc);
     for part in parts.as_slice() {
@@ -93,8 +103,8 @@ fn inner_value(
     table: &TypeTable,
     inner: &InnerText,
 ) -> Result<InnerValue, TypeFault>
-    ensures object { IfOk result (λ object. inner_value_of table.now (means scope.now) inner.now ≡ Ok object) }
-    ensures broken { (place : APlace) → result ≡ Err (Broken place) → inner_value_of table.now (means scope.now) inner.now ≡ Err place }
+    ensures object { Gives result (inner_value_of table.now (means scope.now) inner.now) }
+    ensures broken { BreaksAs result (inner_value_of table.now (means scope.now) inner.now) }
 {
     match inner {
         InnerText::Word { place: _, word } => Ok(inner_word(*word)),
@@ -102,7 +112,7 @@ fn inner_value(
             let object = container_value(alloc, scope, table, container)?;
             Ok(InnerValue::Object(object))
         }
-        InnerText::Declared(name) => Ok(named_inner(scope.meaning(name), name.first.place)?),
+        InnerText::Declared(name) => Ok(named_inner(scope.meaning(name))),
     }
 }
 
@@ -114,8 +124,9 @@ pub fn container_value(
     table: &TypeTable,
     container: &Container,
 ) -> Result<Inner, TypeFault>
-    ensures object { IfOk result (λ object. container_value_of table.now (means scope.now) container.now ≡ Ok object) }
-    ensures broken { (place : APlace) → result ≡ Err (Broken place) → container_value_of table.now (means scope.now) container.now ≡ Err place }
+    ensures object { Gives result (container_value_of table.now (means scope.now) container.now) }
+    ensures broken { BreaksAs result
+        (container_value_of table.now (means scope.now) container.now) }
 {
     match container {
         Container::Single {
@@ -132,9 +143,15 @@ pub fn container_value(
             first,
             second,
         } => {
+            if !takes(*double, first.get()) {
+                return Err(TypeFault::Broken { place: *place });
+            }
             let first_kind = value_of(alloc, scope, table, first.get())?;
+            if !is_key(table, &first_kind) {
+                return Err(TypeFault::Broken { place: *place });
+            }
             let second_kind = value_of(alloc, scope, table, second.get())?;
-            Ok(both_value(alloc, table, *place, *double, first_kind, second_kind)?)
+            Ok(object_of(alloc, *double, first_kind, second_kind)?)
         }
     }
 }
@@ -147,8 +164,8 @@ fn single_value(
     single: Single,
     kind: ValueType,
 ) -> Result<Inner, TypeFault>
-    ensures object { IfOk result (λ object. single_told table.now place single (Ok kind) ≡ Ok object) }
-    ensures broken { (at : APlace) → result ≡ Err (Broken at) → single_told table.now place single (Ok kind) ≡ Err at }
+    ensures object { Gives result (single_told table.now place single (Ok kind)) }
+    ensures broken { BreaksAs result (single_told table.now place single (Ok kind)) }
 {
     match single {
         Single::List => {
@@ -169,34 +186,25 @@ fn single_value(
     }
 }
 
-/// A container of two types; the keys of a map are of a key type, and a rule of a classifier is a tuple of key types.
-fn both_value(
+/// The type of a map or a classifier.
+fn object_of(
     alloc: Global,
-    table: &TypeTable,
-    place: Place,
     double: Double,
     first: ValueType,
     second: ValueType,
-) -> Result<Inner, TypeFault>
-    ensures object { IfOk result (λ object. both_told table.now place double first second ≡ Ok object) }
-    ensures broken { (at : APlace) → result ≡ Err (Broken at) → both_told table.now place double first second ≡ Err at }
+) -> Result<Inner, NoMemory>
+    ensures { Makes result (object_told double first second) }
 {
-    if !is_key(table, &first) {
-        return Err(TypeFault::Broken { place });
-    }
-    match double {
-        Double::Map => {
-            let key = Boxed::new(alloc, first)?;
-            let value = Boxed::new(alloc, second)?;
-            Ok(Inner::Map { key, value })
-        }
-        Double::Classifier => {
-            if !is_tuple(&first) {
-                return Err(TypeFault::Broken { place });
-            }
-            let rule = Boxed::new(alloc, first)?;
-            let value = Boxed::new(alloc, second)?;
-            Ok(Inner::Classifier { rule, value })
-        }
-    }
+    let first = Boxed::new(alloc, first)?;
+    let second = Boxed::new(alloc, second)?;
+    Ok(match double {
+        Double::Map => Inner::Map {
+            key: first,
+            value: second,
+        },
+        Double::Classifier => Inner::Classifier {
+            rule: first,
+            value: second,
+        },
+    })
 }

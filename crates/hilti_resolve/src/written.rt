@@ -1,9 +1,11 @@
 //! Written types.
-ghost use Rattle.std.specs.Prelude.{◌≡◌, ℕ, Err, Ok, None, Some, IfOk};
-ghost use Rattle.hilti_base.specs.declared.names.Place.{Place as APlace};
+ghost use Rattle.std.specs.Prelude.{◌≡◌};
 ghost use Rattle.hilti_scope.specs.Scopes.{means};
-ghost use Rattle.hilti_resolve.specs.Names.{first_unknown as first_unknown_place};
-ghost use Rattle.hilti_resolve.specs.Refused.{type_refusal, unknown_or_broken, deep_at, refusal_of, start_of as start_place, parametric_start as parametric_place, same_place as are_same_place};
+ghost use Rattle.hilti_resolve.specs.Answering.{Accepts, Gives, RefusesAs};
+ghost use Rattle.hilti_resolve.specs.Refused.{type_refusal, known_refusal, deep_at, refusal_of};
+ghost use Rattle.hilti_resolve.specs.Refused.{start_of as start_place};
+ghost use Rattle.hilti_resolve.specs.Refused.{parametric_start as parametric_place};
+ghost use Rattle.hilti_resolve.specs.Refused.{same_place as are_same_place};
 ghost use Rattle.hilti_resolve.specs.Values.{value_of as value_told};
 
 use crate::depth::{TOO_DEEP, capped_depth};
@@ -11,8 +13,8 @@ use crate::fault::TypeFault;
 use crate::unknown::first_unknown;
 use crate::value::value_of;
 use hilti_base::{Place, Refusal};
+use hilti_module::{Parametric, TypeText};
 use hilti_scope::Scope;
-use hilti_syntax::{Parametric, TypeText};
 use hilti_types::{TypeTable, ValueType};
 use std::alloc::Global;
 
@@ -26,22 +28,21 @@ const BAD_TYPE: u32 = 25;
 const TYPE_DEPTH: u32 = 26;
 
 /// The type that a written type stands for. It is refused at its first fault: with code 21 at its first name that means
-/// nothing, else with code 25 at the smallest part that breaks the rules of types; or with code 26 at its first token
+/// nothing, else with code 25 at the first part that breaks the rules of types; or with code 26 at its first token
 /// where it nests deeper than 16 and no lesser code is met there. `table` has the types that are declared in front of
-/// it, and `depths` how deep each of these is.
+/// it.
 pub fn read_type(
     alloc: Global,
     scope: &Scope<'_>,
     table: &TypeTable,
-    depths: &[u32],
     text: &TypeText,
 ) -> Result<ValueType, Refusal>
-    ensures kind { IfOk result (λ kind. value_told table.now (means scope.now) text.now ≡ Ok kind) }
-    ensures accepted { IfOk result (λ kind. type_refusal table.now depths.now (means scope.now) text.now ≡ None) }
-    ensures refusal { (place : APlace) (code : ℕ) → result ≡ Err (Refusal.At place code) → type_refusal table.now depths.now (means scope.now) text.now ≡ Some (Refusal.At place code) }
+    ensures kind { Gives result (value_told table.now (means scope.now) text.now) }
+    ensures accepted { Accepts result (type_refusal table.now (means scope.now) text.now) }
+    ensures refusal { RefusesAs result (type_refusal table.now (means scope.now) text.now) }
 {
     let value = known_value(alloc, scope, table, text);
-    if capped_depth(scope, depths, text) == TOO_DEEP {
+    if capped_depth(scope, table, text) == TOO_DEEP {
         return Err(deep_refusal(start_of(text), value));
     }
     value
@@ -54,9 +55,9 @@ fn known_value(
     table: &TypeTable,
     text: &TypeText,
 ) -> Result<ValueType, Refusal>
-    ensures kind { IfOk result (λ kind. value_told table.now (means scope.now) text.now ≡ Ok kind) }
-    ensures accepted { IfOk result (λ kind. unknown_or_broken (first_unknown_place (means scope.now) text.now) (value_told table.now (means scope.now) text.now) ≡ None) }
-    ensures refusal { (place : APlace) (code : ℕ) → result ≡ Err (Refusal.At place code) → unknown_or_broken (first_unknown_place (means scope.now) text.now) (value_told table.now (means scope.now) text.now) ≡ Some (Refusal.At place code) }
+    ensures kind { Gives result (value_told table.now (means scope.now) text.now) }
+    ensures accepted { Accepts result (known_refusal table.now (means scope.now) text.now) }
+    ensures refusal { RefusesAs result (known_refusal table.now (means scope.now) text.now) }
 {
     if let Some(place) = first_unknown(scope, text) {
         return Err(Refusal::At {

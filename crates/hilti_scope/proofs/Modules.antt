@@ -4,8 +4,8 @@ use Rattle.std.specs.Option.{option_or}
 use Rattle.std.proofs.lemmas.Bool.Decides.{nat_tests}
 use Rattle.std.proofs.lemmas.List.{map-append, take_more, length-map}
 use Rattle.std.proofs.lemmas.Option.{slice_get_past}
-use Rattle.hilti_syntax.specs.declared.module.Module.{Module}
-use Rattle.hilti_syntax.specs.declared.module.Item.{Item}
+use Rattle.hilti_module.specs.declared.module.Module.{Module}
+use Rattle.hilti_module.specs.declared.module.Item.{Item}
 use Rattle.hilti_scope.specs.declared.meaning.Meaning.{Meaning}
 use Rattle.hilti_scope.specs.declared.declarations.Gathering.{Gathering}
 use Rattle.hilti_scope.specs.FirstPlaces.{place_of}

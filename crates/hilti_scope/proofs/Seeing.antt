@@ -1,18 +1,18 @@
 -- What a scope sees, at first and with one more parameter or local.
-use Rattle.std.proofs.Common.{◌≡◌, ℕ, Bool, true, false, cond, ◌||◌, List, [], ◌∷◌, ◌++◌, bytes_eq, Option, Some, None, is_some, unwrap_or, refl, sym, ap, ap₂, ◌∙◌}
+use Rattle.std.proofs.Common.{◌≡◌, ℕ, cond, List, [], ◌∷◌, ◌++◌, length, bytes_eq, Option, Some, None, unwrap_or, refl, sym, ap, ap₂, ◌∙◌}
 use Rattle.std.specs.Option.{option_map, option_or}
-use Rattle.std.proofs.lemmas.List.Folds.{list_any-append}
-use Rattle.hilti_syntax.specs.declared.types.Name.{Name}
-use Rattle.hilti_syntax.specs.declared.types.Word.{Word}
-use Rattle.hilti_syntax.specs.declared.module.Module.{Module}
+use Rattle.hilti_module.specs.declared.types.Name.{Name}
+use Rattle.hilti_module.specs.declared.types.Word.{Word}
+use Rattle.hilti_module.specs.declared.module.Module.{Module}
 use Rattle.hilti_scope.specs.declared.meaning.Meaning.{Meaning}
-use Rattle.hilti_scope.specs.declared.meaning.Meaning.TheVariants.{Nothing, Local}
+use Rattle.hilti_scope.specs.declared.meaning.Meaning.TheVariants.{Nothing}
 use Rattle.hilti_scope.specs.declared.declarations.Declarations.{Declarations}
 use Rattle.hilti_scope.specs.declared.scope.Scope.{Scope}
 use Rattle.hilti_scope.specs.FirstPlaces.{place_of}
 use Rattle.hilti_scope.specs.Items.{declaration, module_named}
-use Rattle.hilti_scope.specs.Meanings.{declared_in, declared_there, seen_from, built_in, meaning_in, meaning_by, meaning_in_module, is_among, is_first}
-use Rattle.hilti_scope.specs.Scopes.{seen, seen_at, place_in, has_local, comes_first_in, is_place, means, means_by, means_there, plain_means, AreOf, Sees}
+use Rattle.hilti_scope.specs.Meanings.{declared_in, declared_there, seen_from, built_in, meaning_in, meaning_by, meaning_in_module, local_or, slot_of, is_first}
+use Rattle.hilti_scope.proofs.Positions.{position-push}
+use Rattle.hilti_scope.specs.Scopes.{seen, seen_at, place_in, slot_in, comes_first_in, is_place, means, means_by, means_there, plain_means, AreOf, Sees}
 
 module _ (modules : List Module) (declarations : Declarations) (are : AreOf modules declarations) where
   seen_there : (here : ℕ) (place : Option ℕ) → seen_at declarations here place ≡ declared_there modules here place
@@ -27,12 +27,12 @@ module _ (modules : List Module) (scope : Scope) (are : AreOf modules scope.decl
   there None bytes = refl
   there (Some file) bytes = ap (λ r. unwrap_or r Nothing) (seen_is modules scope.declarations.now are scope.here file bytes)
 
-  no_local : (bytes : List ℕ) → has_local scope bytes ≡ is_among [] bytes
+  no_local : (bytes : List ℕ) → slot_in scope bytes ≡ slot_of [] bytes
   unfolding place_of
-  no_local bytes = ap (λ locals. is_some (place_of locals bytes)) none
+  no_local bytes = ap (λ locals. place_of locals bytes) none
 
   by_words : (first : Word) (second : Option Word) → means_by scope first second ≡ meaning_by modules scope.file scope.here [] first second
-  by_words first None = ap₂ (λ b r. cond b Local (unwrap_or r (built_in first.bytes))) (no_local first.bytes) (seen_is modules scope.declarations.now are scope.here scope.file first.bytes)
+  by_words first None = ap₂ (λ slot r. local_or slot (unwrap_or r (built_in first.bytes))) (no_local first.bytes) (seen_is modules scope.declarations.now are scope.here scope.file first.bytes)
   by_words first (Some second) = ap (λ file. means_there scope file second.bytes) (are.modules_are first.bytes) ∙ there (module_named modules first.bytes) second.bytes
 
   means_name : (name : Name) → means scope name ≡ meaning_in modules scope.file scope.here [] name
@@ -44,36 +44,22 @@ module _ (modules : List Module) (scope : Scope) (are : AreOf modules scope.decl
 
   -- at first there are no parameters and locals
   pub Sees-new : Sees modules scope.file scope.here [] scope
-  Sees-new = record { means_are = λ i name. means_name name i; locals_are = no_local; first_is = first_is }
+  Sees-new = record { means_are = λ i name. means_name name i; slots_are = no_local; first_is = first_is }
 
-is_some_or : (r : Option ℕ) (b : Bool) → is_some (option_or r (cond b (Some 0) None)) ≡ (is_some r || b)
-is_some_or None true = refl
-is_some_or None false = refl
-is_some_or (Some i) b = refl
+hides : (r s : Meaning) (slot next : Option ℕ) → local_or slot r ≡ local_or slot s → local_or (option_or slot next) r ≡ local_or (option_or slot next) s
+hides r s None next h = ap (local_or next) h
+hides r s (Some slot) next h = refl
 
-or_false : (b c : Bool) → (b || (c || false)) ≡ (b || c)
-or_false true c = refl
-or_false false true = refl
-or_false false false = refl
-
-is_among-push : (locals : List (List ℕ)) (word bytes : List ℕ) → is_among (locals ++ word ∷ []) bytes ≡ (is_among locals bytes || bytes_eq word bytes)
-is_among-push locals word bytes = list_any-append (λ one. bytes_eq one bytes) locals (word ∷ []) ∙ or_false (is_among locals bytes) (bytes_eq word bytes)
-
-hides : (r s : Meaning) (b c d : Bool) → cond c Local r ≡ cond d Local s → cond (c || b) Local r ≡ cond (d || b) Local s
-hides r s true true true h = refl
-hides r s true true false h = refl
-hides r s true false true h = refl
-hides r s true false false h = refl
-hides r s false true true h = h
-hides r s false true false h = h
-hides r s false false true h = h
-hides r s false false false h = h
-
-module _ (modules : List Module) (file here : ℕ) (locals : List (List ℕ)) (old new : Scope) (word : List ℕ) (sees : Sees modules file here locals old)
+module _ (modules : List Module) (file here : ℕ) (locals : List (List ℕ)) (old new : Scope) (word : List ℕ) (slot : ℕ) (sees : Sees modules file here locals old)
+    (next : slot ≡ length locals)
     (declarations : new.declarations ≡ old.declarations) (same_file : new.file ≡ old.file) (same_here : new.here ≡ old.here)
-    (noted : (bytes : List ℕ) → place_of new.locals bytes ≡ option_or (place_of old.locals bytes) (cond (bytes_eq word bytes) (Some 0) None)) where
-  local_more : (bytes : List ℕ) → has_local new bytes ≡ (has_local old bytes || bytes_eq word bytes)
-  local_more bytes = ap is_some (noted bytes) ∙ is_some_or (place_of old.locals bytes) (bytes_eq word bytes)
+    (noted : (bytes : List ℕ) → place_of new.locals bytes ≡ option_or (place_of old.locals bytes) (cond (bytes_eq word bytes) (Some slot) None)) where
+  -- the slot of a name among the parameters and locals, one more included
+  one_more : (bytes : List ℕ) → slot_of (locals ++ word ∷ []) bytes ≡ option_or (slot_of locals bytes) (cond (bytes_eq word bytes) (Some (length locals)) None)
+  one_more bytes = position-push (λ other. bytes_eq other bytes) locals word
+
+  slot_more : (bytes : List ℕ) → slot_in new bytes ≡ option_or (slot_of locals bytes) (cond (bytes_eq word bytes) (Some (length locals)) None)
+  slot_more bytes = noted bytes ∙ (λ i. option_or (sees.slots_are bytes i) (cond (bytes_eq word bytes) (Some (next i)) None))
 
   there_same : (there : Option ℕ) (bytes : List ℕ) → means_there new there bytes ≡ means_there old there bytes
   there_same None bytes = refl
@@ -82,9 +68,9 @@ module _ (modules : List Module) (file here : ℕ) (locals : List (List ℕ)) (o
   words_more : (first : Word) (second : Option Word) → means_by old first second ≡ meaning_by modules file here locals first second
       → means_by new first second ≡ meaning_by modules file here (locals ++ word ∷ []) first second
   words_more first None was =
-      (λ i. cond (local_more first.bytes i) Local (unwrap_or (seen (declarations i).now (same_here i) (same_file i) first.bytes) (built_in first.bytes)))
-      ∙ hides _ _ (bytes_eq word first.bytes) (has_local old first.bytes) (is_among locals first.bytes) was
-      ∙ ap (λ b. cond b Local (unwrap_or (declared_in modules here file first.bytes) (built_in first.bytes))) (sym (is_among-push locals word first.bytes))
+      (λ i. local_or (slot_more first.bytes i) (unwrap_or (seen (declarations i).now (same_here i) (same_file i) first.bytes) (built_in first.bytes)))
+      ∙ hides _ _ (slot_of locals first.bytes) (cond (bytes_eq word first.bytes) (Some (length locals)) None) (sym (ap (λ s. local_or s (unwrap_or (seen old.declarations.now old.here old.file first.bytes) (built_in first.bytes))) (sees.slots_are first.bytes)) ∙ was)
+      ∙ ap (λ s. local_or s (unwrap_or (declared_in modules here file first.bytes) (built_in first.bytes))) (sym (one_more first.bytes))
   words_more first (Some second) was = same ∙ was
     where
       same : means_by new first (Some second) ≡ means_by old first (Some second)
@@ -98,7 +84,7 @@ module _ (modules : List Module) (file here : ℕ) (locals : List (List ℕ)) (o
   pub Sees-hide : Sees modules file here (locals ++ word ∷ []) new
   Sees-hide = record {
     means_are = λ i name. means_more name (λ j. sees.means_are j name) i;
-    locals_are = λ bytes. local_more bytes ∙ ap (λ b. b || bytes_eq word bytes) (sees.locals_are bytes) ∙ sym (is_among-push locals word bytes);
+    slots_are = λ bytes. slot_more bytes ∙ sym (one_more bytes);
     first_is = λ bytes. (λ i. is_place (same_here i) (place_in (declarations i).now (same_file i) bytes)) ∙ sees.first_is bytes;
   }
 

@@ -1,17 +1,19 @@
 //! What the items of a set of modules declare.
-ghost use Rattle.std.specs.Prelude.{◌≡◌, ◌↔◌, IsTrue, ◌+◌, ◌-◌, ◌<◌, ◌^◌, ◌++◌, ℕ, cond, List, [], ◌∷◌, length, None, Some, IfOk, OnOk};
+ghost use Rattle.std.specs.Prelude.{◌≡◌, ◌↔◌, IsTrue, ◌+◌, ◌-◌, ◌<◌, ◌^◌, ◌++◌, ℕ, cond, List, []};
+ghost use Rattle.std.specs.Prelude.{◌∷◌, length, None, Some, IfOk, OnOk};
 ghost use Rattle.std.specs.Option.{option_copied, option_or};
-ghost use Rattle.hilti_syntax.specs.declared.module.Module.{Module as AModule};
+ghost use Rattle.hilti_module.specs.declared.module.Module.{Module as AModule};
 ghost use Rattle.hilti_scope.specs.Items.{placed, placed_in, declared_word, is_word, Placed};
 ghost use Rattle.hilti_scope.specs.FirstPlaces.{place_of};
 ghost use Rattle.hilti_scope.specs.Scopes.{AreOf, place_in, seen};
-ghost use Rattle.hilti_scope.specs.Numbers.{AreBelow, meaning_with, type_with, numbers_with, numbers_with_type};
+ghost use Rattle.hilti_scope.specs.Numbers.{AreBelow, meaning_with, type_with, numbers_with};
+ghost use Rattle.hilti_scope.specs.Numbers.{numbers_with_type};
 ghost use Rattle.hilti_scope.specs.Gathered.{HasRoom, IsBehind, IsGathered, AreNames, KeepsNames};
 
 use crate::first_places::FirstPlaces;
 use crate::meaning::Meaning;
 use hilti_base::{Collection, NoMemory};
-use hilti_syntax::{Item, Module, Shape, Word};
+use hilti_module::{Item, Module, Shape, Word};
 use std::alloc::Global;
 
 /// Modules in word order.
@@ -209,7 +211,8 @@ impl Gathering {
     /// Adds a module behind those that were read.
     fn add_module(&mut self, alloc: Global, next: &Module) -> Result<(), NoMemory>
         requires { HasRoom (length next.now.items) self.old }
-        ensures { OnOk result ((before : List AModule) → IsGathered before self.old → IsGathered (before ++ next.now ∷ []) self.new) }
+        ensures { OnOk result ((before : List AModule) → IsGathered before self.old → IsGathered
+            (before ++ next.now ∷ []) self.new) }
     {
         let mut names = FirstPlaces::new(alloc);
         self.add_items(&mut names, next.items.as_slice())?;
@@ -223,8 +226,12 @@ impl Gathering {
     /// Adds the items of a module, whose names are noted in `names`.
     fn add_items(&mut self, names: &mut FirstPlaces, items: &[Item]) -> Result<(), NoMemory>
         requires { HasRoom (length items.now) self.old }
-        ensures behind { OnOk result ((before : List Placed) (file : ℕ) → IsBehind before self.old → IsBehind (before ++ placed_in file items.now) self.new) }
-        ensures names { OnOk result ((before : List Placed) (file : ℕ) → IsBehind before self.old → AreNames file before names.old → AreNames file (before ++ placed_in file items.now) names.new) }
+        ensures behind { OnOk result ((before : List Placed) (file : ℕ) → IsBehind before self.old
+            → IsBehind
+            (before ++ placed_in file items.now) self.new) }
+        ensures names { OnOk result ((before : List Placed) (file : ℕ) → IsBehind before self.old
+            → AreNames
+            file before names.old → AreNames file (before ++ placed_in file items.now) names.new) }
         ensures kept { OnOk result (KeepsNames self.old self.new) }
     {
         for item in items {
@@ -236,8 +243,13 @@ impl Gathering {
     /// Adds an item of a module, whose names are noted in `names`.
     fn add_item(&mut self, names: &mut FirstPlaces, item: &Item) -> Result<(), NoMemory>
         requires { HasRoom 1 self.old }
-        ensures behind { OnOk result ((before : List Placed) (file : ℕ) → IsBehind before self.old → IsBehind (before ++ placed_in file (item.now ∷ [])) self.new) }
-        ensures names { OnOk result ((before : List Placed) (file : ℕ) → IsBehind before self.old → AreNames file before names.old → AreNames file (before ++ placed_in file (item.now ∷ [])) names.new) }
+        ensures behind { OnOk result ((before : List Placed) (file : ℕ) → IsBehind before self.old
+            → IsBehind
+            (before ++ placed_in file (item.now ∷ [])) self.new) }
+        ensures names { OnOk result ((before : List Placed) (file : ℕ) → IsBehind before self.old
+            → AreNames
+            file before names.old → AreNames file (before ++ placed_in file (item.now ∷ []))
+            names.new) }
         ensures kept { OnOk result (KeepsNames self.old self.new) }
     {
         let at = self.declarations.meanings.len();
@@ -250,7 +262,8 @@ impl Gathering {
 
 /// Notes the name that an item declares, if it declares one.
 fn note_name(names: &mut FirstPlaces, item: &Item, at: usize) -> Result<(), NoMemory>
-    ensures { OnOk result ((bytes : List ℕ) → place_of names.new bytes ≡ option_or (place_of names.old bytes) (cond (is_word bytes (declared_word item.now)) (Some at) None)) }
+    ensures { OnOk result ((bytes : List ℕ) → place_of names.new bytes ≡ option_or
+        (place_of names.old bytes) (cond (is_word bytes (declared_word item.now)) (Some at) None)) }
 {
     match name_of(item) {
         Some(name) => Ok(names.note(name.bytes.bytes(), at)?),

@@ -34,7 +34,8 @@ impl FirstPlaces {
 
     /// Notes a word, unless it was noted before. Without memory nothing changes.
     pub fn note(&mut self, word: &[u8], place: usize) -> Result<(), NoMemory>
-        ensures noted { OnOk result ((bytes : List ℕ) → place_of self.new bytes ≡ option_or (place_of self.old bytes) (cond (bytes_eq word.now bytes) (Some place) None)) }
+        ensures noted { OnOk result ((bytes : List ℕ) → place_of self.new bytes ≡ option_or
+            (place_of self.old bytes) (cond (bytes_eq word.now bytes) (Some place) None)) }
         ensures err { OnErr result (self.new ≡ self.old) }
     {
         if self.places.contains_key(word) {

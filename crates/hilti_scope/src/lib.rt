@@ -10,6 +10,3 @@ pub use declarations::{Declarations, Modules, can_be_numbered};
 pub use first_places::FirstPlaces;
 pub use meaning::Meaning;
 pub use scope::{Scope, is_built_in};
-
-#[cfg(test)]
-mod tests;

@@ -9,8 +9,8 @@ ghost use Rattle.hilti_scope.specs.Meanings as spec;
 pub enum Meaning {
     /// Nothing, or a type or an exception that is declared there or later.
     Nothing,
-    /// A parameter or a local.
-    Local,
+    /// A parameter or a local, with its number: parameters count from 0, and locals behind them.
+    Local { slot: usize },
     Struct { n: u32 },
     Enum { n: u32 },
     Overlay { n: u32 },

@@ -1,15 +1,16 @@
 //! The meanings of names, as they are seen from an item of a module.
-ghost use Rattle.std.specs.Prelude.{◌≡◌, ◌++◌, ℕ, List, [], ◌∷◌, bytes_eq, OnOk, OnErr};
+ghost use Rattle.std.specs.Prelude.{◌≡◌, ℕ, List, [], bytes_eq, OnOk, OnErr};
 ghost use Rattle.std.specs.List.{position};
-ghost use Rattle.hilti_syntax.specs.declared.module.Module.{Module as AModule};
+ghost use Rattle.hilti_module.specs.declared.module.Module.{Module as AModule};
 ghost use Rattle.hilti_scope.specs.Meanings as spec;
-ghost use Rattle.hilti_scope.specs.Scopes.{means, has_local, comes_first_in, plain_means, means_there, AreOf, Sees};
+ghost use Rattle.hilti_scope.specs.Scopes.{means, slot_in, comes_first_in, plain_means};
+ghost use Rattle.hilti_scope.specs.Scopes.{means_there, AreOf, Hides, Sees};
 
 use crate::declarations::Declarations;
 use crate::first_places::FirstPlaces;
 use crate::meaning::Meaning;
 use hilti_base::NoMemory;
-use hilti_syntax::Name;
+use hilti_module::Name;
 use std::alloc::Global;
 
 /// What names mean, seen from one item with its parameters and locals.
@@ -20,14 +21,15 @@ pub struct Scope<'a> {
     file: usize,
     /// The number of the item over all modules.
     here: usize,
-    /// The parameters and locals.
+    /// The parameters and locals, with their numbers.
     locals: FirstPlaces,
 }
 
 impl<'a> Scope<'a> {
     /// The scope of the item `here` of the module `file`, with no parameters or locals yet. It takes no memory.
     pub fn new(alloc: Global, declarations: &'a Declarations, file: usize, here: usize) -> Scope<'a>
-        ensures { (modules : List AModule) → AreOf modules declarations.now → Sees modules file here [] result }
+        ensures { (modules : List AModule) → AreOf modules declarations.now
+            → Sees modules file here [] result }
     {
         Scope {
             declarations,
@@ -37,20 +39,21 @@ impl<'a> Scope<'a> {
         }
     }
 
-    /// Adds a parameter or a local, which hides the declarations of its name. Without memory nothing changes.
-    pub fn hide(&mut self, word: &[u8]) -> Result<(), NoMemory>
-        ensures hides { OnOk result ((modules : List AModule) (file here : ℕ) (locals : List (List ℕ)) → Sees modules file here locals self.old → Sees modules file here (locals ++ word.now ∷ []) self.new) }
+    /// Adds the next parameter or local, which hides the declarations of its name. Its number is that of those in front
+    /// of it. Without memory nothing changes.
+    pub fn hide(&mut self, word: &[u8], slot: usize) -> Result<(), NoMemory>
+        ensures hides { OnOk result (Hides word.now slot self.old self.new) }
         ensures err { OnErr result (self.new ≡ self.old) }
     {
-        self.locals.note(word, 0)?;
+        self.locals.note(word, slot)?;
         Ok(())
     }
 
-    /// Whether a word is a parameter or a local.
-    pub fn is_local(&self, word: &[u8]) -> bool
-        ensures { result ≡ has_local self.now word.now }
+    /// The number of the parameter or local of a name.
+    pub fn slot(&self, word: &[u8]) -> Option<usize>
+        ensures { result ≡ slot_in self.now word.now }
     {
-        self.locals.place(word).is_some()
+        self.locals.place(word)
     }
 
     /// Whether the item is the first of its module that declares a name.
@@ -80,8 +83,8 @@ impl<'a> Scope<'a> {
     fn plain_meaning(&self, word: &[u8]) -> Meaning
         ensures { result ≡ plain_means self.now word.now }
     {
-        if self.is_local(word) {
-            return Meaning::Local;
+        if let Some(slot) = self.slot(word) {
+            return Meaning::Local { slot };
         }
         match self.declarations.seen(self.here, self.file, word) {
             Some(meaning) => meaning,

@@ -1,4 +1,6 @@
-ghost use Rattle.std.specs.Prelude.{◌≡◌, ◌+◌, ◌^◌, ◌<◌, ◌↔◌, [], ◌∷◌, ◌++◌, length, take, slice_get, slice_set, is_ok, is_some, IfOk, IfErr, IsOk, IsSome, if◌then◌else◌};
+ghost use Rattle.std.specs.Prelude.{◌≡◌, ◌+◌, ◌^◌, ◌<◌, ◌↔◌, [], ◌∷◌, ◌++◌, length, take};
+ghost use Rattle.std.specs.Prelude.{slice_get, slice_set, is_ok, is_some, IfOk, IfErr, IsOk};
+ghost use Rattle.std.specs.Prelude.{IsSome, if◌then◌else◌};
 ghost use Rattle.std.specs.Option.{option_copied, option_to_list};
 
 use hilti_base::NoMemory;
@@ -61,8 +63,10 @@ impl<T> Seq<T> {
     /// Adds an item at the end. Without memory nothing changes, and the item comes back.
     pub fn push_back(&mut self, item: T) -> Result<(), (T, NoMemory)>
         requires { self.old.version < 2 ^ 63 }
-        ensures items { self.new.items ≡ (if is_ok result then self.old.items ++ item ∷ [] else self.old.items) }
-        ensures version { self.new.version ≡ (if is_ok result then self.old.version + 1 else self.old.version) }
+        ensures items { self.new.items
+            ≡ (if is_ok result then self.old.items ++ item ∷ [] else self.old.items) }
+        ensures version { self.new.version
+            ≡ (if is_ok result then self.old.version + 1 else self.old.version) }
         ensures refused { IfErr result (λ refused. refused.0 ≡ item) }
     {
         match self.items.push_back(item) {
@@ -77,8 +81,10 @@ impl<T> Seq<T> {
     /// Adds an item at the front. Without memory nothing changes, and the item comes back.
     pub fn push_front(&mut self, item: T) -> Result<(), (T, NoMemory)>
         requires { self.old.version < 2 ^ 63 }
-        ensures items { self.new.items ≡ (if is_ok result then item ∷ self.old.items else self.old.items) }
-        ensures version { self.new.version ≡ (if is_ok result then self.old.version + 1 else self.old.version) }
+        ensures items { self.new.items
+            ≡ (if is_ok result then item ∷ self.old.items else self.old.items) }
+        ensures version { self.new.version
+            ≡ (if is_ok result then self.old.version + 1 else self.old.version) }
         ensures refused { IfErr result (λ refused. refused.0 ≡ item) }
     {
         match self.items.push_front(item) {
@@ -95,7 +101,8 @@ impl<T> Seq<T> {
         requires { self.old.version < 2 ^ 63 }
         ensures items { self.old.items ≡ self.new.items ++ option_to_list result }
         ensures some { IsSome result ↔ (0 < length self.old.items) }
-        ensures version { self.new.version ≡ (if is_some result then self.old.version + 1 else self.old.version) }
+        ensures version { self.new.version
+            ≡ (if is_some result then self.old.version + 1 else self.old.version) }
     {
         match self.items.pop_back() {
             Some(item) => {
@@ -111,7 +118,8 @@ impl<T> Seq<T> {
         requires { self.old.version < 2 ^ 63 }
         ensures items { self.old.items ≡ option_to_list result ++ self.new.items }
         ensures some { IsSome result ↔ (0 < length self.old.items) }
-        ensures version { self.new.version ≡ (if is_some result then self.old.version + 1 else self.old.version) }
+        ensures version { self.new.version
+            ≡ (if is_some result then self.old.version + 1 else self.old.version) }
     {
         match self.items.pop_front() {
             Some(item) => {
@@ -128,8 +136,10 @@ impl<T> Seq<T> {
         requires { self.old.version < 2 ^ 63 }
         ensures ok { IsOk result ↔ (at < length self.old.items) }
         ensures old { IfOk result (λ old. slice_get self.old.items at ≡ Some old) }
-        ensures items { self.new.items ≡ (if is_ok result then slice_set self.old.items at item else self.old.items) }
-        ensures version { self.new.version ≡ (if is_ok result then self.old.version + 1 else self.old.version) }
+        ensures items { self.new.items
+            ≡ (if is_ok result then slice_set self.old.items at item else self.old.items) }
+        ensures version { self.new.version
+            ≡ (if is_ok result then self.old.version + 1 else self.old.version) }
         ensures refused { IfErr result (λ refused. refused ≡ item) }
     {
         let place = at as usize;

@@ -11,19 +11,19 @@ use Rattle.hilti_lexer.specs.Readings.{AreRead, Lexes, behind_gap, start}
 use Rattle.hilti_lexer.specs.Tokens.{Stands}
 use Rattle.hilti_lexer.proofs.Lengths.{stands_shorter}
 use Rattle.hilti_lexer.proofs.Places.{gap_within}
-use Rattle.hilti_syntax.specs.declared.kind.Kind.{Kind}
-use Rattle.hilti_syntax.specs.declared.piece.Piece.{Piece}
-use Rattle.hilti_syntax.specs.declared.module.Item.{Item}
-use Rattle.hilti_syntax.specs.declared.types.Word.{Word}
-use Rattle.hilti_syntax.specs.Counts.{module_count}
-use Rattle.hilti_syntax.specs.Kinds.{kind_of}
-use Rattle.hilti_syntax.specs.Modules.{RuleName.ModuleText}
-use Rattle.hilti_syntax.specs.Parts.{items_tree}
-use Rattle.hilti_syntax.specs.Pieces.{kind_behind, piece_behind, pieces_behind, pieces_of, end_token}
-use Rattle.hilti_syntax.specs.Spelled.{word_tree, behind_mark}
+use Rattle.hilti_kinds.specs.declared.kind.Kind.{Kind}
+use Rattle.hilti_kinds.specs.declared.piece.Piece.{Piece}
+use Rattle.hilti_module.specs.declared.module.Item.{Item}
+use Rattle.hilti_module.specs.declared.types.Word.{Word}
+use Rattle.hilti_module.specs.Counts.{module_count}
+use Rattle.hilti_kinds.specs.Kinds.{kind_of}
+use Rattle.hilti_reader.specs.Modules.{RuleName.ModuleText}
+use Rattle.hilti_pieces.specs.Pieces.{kind_behind, piece_behind, pieces_behind, pieces_of, end_token}
+use Rattle.hilti_reader.specs.Spelled.{word_tree, behind_mark}
 use Rattle.hilti_syntax.proofs.Counting.{whole_module}
-use Rattle.hilti_syntax.proofs.Exits.{Goes}
-use Rattle.hilti_syntax.proofs.Kept.{reading_is_exact}
+use Rattle.hilti_reader.proofs.Exits.{Goes}
+use Rattle.hilti_reader.proofs.Kept.{reading_is_exact}
+use Rattle.hilti_syntax.specs.Items.{items_tree}
 
 -- a token takes a byte at least
 token_takes : (text rest : List ℕ) (kind : TokenKind) → Stands text kind rest → length rest < length text

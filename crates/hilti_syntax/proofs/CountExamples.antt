@@ -1,18 +1,18 @@
 -- What a small module counts.
 use Rattle.std.proofs.Common.{◌≡◌, [], ◌∷◌, None, refl}
 use Rattle.hilti_base.specs.declared.names.Place.{Place}
-use Rattle.hilti_syntax.specs.declared.types.Word.{Word}
-use Rattle.hilti_syntax.specs.declared.types.Name.{Name}
-use Rattle.hilti_syntax.specs.declared.types.TypeText.{TypeText}
-use Rattle.hilti_syntax.specs.declared.module.Item.{Item}
-use Rattle.hilti_syntax.specs.declared.module.Item.TheVariants as items
-use Rattle.hilti_syntax.specs.declared.module.Line.{Line}
-use Rattle.hilti_syntax.specs.declared.module.Line.TheVariants as lines
-use Rattle.hilti_syntax.specs.declared.module.Operand.TheVariants as operands
-use Rattle.hilti_syntax.specs.declared.module.Parameter.{Parameter}
-use Rattle.hilti_syntax.specs.declared.module.Shape.TheVariants as shapes
-use Rattle.hilti_syntax.specs.declared.module.Simple.{Simple}
-use Rattle.hilti_syntax.specs.Counts.{module_count}
+use Rattle.hilti_module.specs.declared.types.Word.{Word}
+use Rattle.hilti_module.specs.declared.types.Name.{Name}
+use Rattle.hilti_module.specs.declared.types.TypeText.{TypeText}
+use Rattle.hilti_module.specs.declared.module.Item.{Item}
+use Rattle.hilti_module.specs.declared.module.Item.TheVariants as items
+use Rattle.hilti_module.specs.declared.module.Line.{Line}
+use Rattle.hilti_module.specs.declared.module.Line.TheVariants as lines
+use Rattle.hilti_module.specs.declared.module.Operand.TheVariants as operands
+use Rattle.hilti_module.specs.declared.module.Parameter.{Parameter}
+use Rattle.hilti_module.specs.declared.module.Shape.TheVariants as shapes
+use Rattle.hilti_module.specs.declared.module.Simple.{Simple}
+use Rattle.hilti_module.specs.Counts.{module_count}
 
 module _ (place : Place) (word : Word) (name : Name) (type : TypeText) (simple : Simple) where
   pair : Parameter
@@ -24,7 +24,7 @@ module _ (place : Place) (word : Word) (name : Name) (type : TypeText) (simple :
 
   -- a label with a handler: two
   a_label : Line
-  a_label = lines.Label place word (record { exception = name; target = word; slot = word } ∷ [])
+  a_label = lines.Label place word (record { place = place; exception = name; target = word; slot = word } ∷ [])
 
   -- an instruction with an operand and a group of two: five
   an_instruction : Line

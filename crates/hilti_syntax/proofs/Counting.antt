@@ -4,29 +4,31 @@ use Rattle.std.specs.Prelude.{Option, Some, None}
 use Rattle.std.proofs.lemmas.List.Sums.{sum_by-cons}
 use Rattle.hilti_base.specs.declared.names.Place.{Place}
 use Rattle.hilti_grammar.specs.Grammar.{Symbol, Symbol.One, Symbol.Empty, Symbol.◌▹◌, Symbol.◌⊕◌, Symbol.Rule, Keep.Placed, Tree.Pair, Tree.Left, Tree.Right}
-use Rattle.hilti_syntax.specs.declared.kind.Kind.{Kind}
-use Rattle.hilti_syntax.specs.declared.types.Word.{Word}
-use Rattle.hilti_syntax.specs.declared.types.Number.{Number}
-use Rattle.hilti_syntax.specs.declared.module.Parameter.{Parameter}
-use Rattle.hilti_syntax.specs.declared.module.Seconds.{Seconds}
-use Rattle.hilti_syntax.specs.declared.module.Simple.{Simple}
-use Rattle.hilti_syntax.specs.declared.module.Operand.{Operand}
-use Rattle.hilti_syntax.specs.declared.module.Operand.TheVariants as operands
-use Rattle.hilti_syntax.specs.declared.module.Mnemonic.{Mnemonic}
-use Rattle.hilti_syntax.specs.declared.module.Line.{Line}
-use Rattle.hilti_syntax.specs.declared.module.Line.TheVariants as lines
-use Rattle.hilti_syntax.specs.declared.module.Body.{Body}
-use Rattle.hilti_syntax.specs.declared.module.Field.{Field}
-use Rattle.hilti_syntax.specs.declared.module.Shape.{Shape}
-use Rattle.hilti_syntax.specs.declared.module.Shape.TheVariants as shapes
-use Rattle.hilti_syntax.specs.declared.module.Item.{Item}
-use Rattle.hilti_syntax.specs.declared.module.Item.TheVariants as items
-use Rattle.hilti_syntax.specs.Counts.{operand_count, line_count, body_count, shape_count, item_count, module_count}
-use Rattle.hilti_syntax.specs.Items.{TimePart, time_part, other_tree, simple_tree, group_tree, operand_of, operands_tree, is_reserved, instruction_tree, behind_first_word, behind_target, handler_tree, line_tree, local_tree, body_tree, parameter_tree, inside_tree, arguments_tree, field_tree, shape_tree, behind_hook, hook_tree, item_tree}
-use Rattle.hilti_syntax.specs.Modules.{RuleName, RuleName.ModuleText, RuleName.ItemText, RuleName.HookRest, RuleName.HookBody, RuleName.Arguments, RuleName.Params, RuleName.ShapeText, RuleName.FieldText, RuleName.BodyText, RuleName.LineText, RuleName.AfterWord, RuleName.InstructionText, RuleName.Operands, RuleName.OperandsBehindTime, RuleName.GroupText, RuleName.SimpleText, RuleName.OtherSimple, RuleName.Parametric, RuleName.Container, RuleName.NameText, word, comma, maybe, typed_word, time_words}
-use Rattle.hilti_syntax.specs.Parts.{handler, local_line, items_tree}
-use Rattle.hilti_syntax.specs.Spelled.{ModuleTree, word_tree, behind_mark}
-use Rattle.hilti_syntax.proofs.AtLeast.{AtLeast, Solid, fewer, none, solid_one, solid_first, solid_either, solid_rule, some, one, both, first, second, left, right, by_rule, no_choice, many, as_many, as_many_separated}
+use Rattle.hilti_kinds.specs.declared.kind.Kind.{Kind}
+use Rattle.hilti_module.specs.declared.types.Word.{Word}
+use Rattle.hilti_module.specs.declared.types.Number.{Number}
+use Rattle.hilti_module.specs.declared.module.Parameter.{Parameter}
+use Rattle.hilti_module.specs.declared.module.Seconds.{Seconds}
+use Rattle.hilti_module.specs.declared.module.Simple.{Simple}
+use Rattle.hilti_module.specs.declared.module.Operand.{Operand}
+use Rattle.hilti_module.specs.declared.module.Operand.TheVariants as operands
+use Rattle.hilti_module.specs.declared.module.Mnemonic.{Mnemonic}
+use Rattle.hilti_module.specs.declared.module.Line.{Line}
+use Rattle.hilti_module.specs.declared.module.Line.TheVariants as lines
+use Rattle.hilti_module.specs.declared.module.Body.{Body}
+use Rattle.hilti_module.specs.declared.module.Field.{Field}
+use Rattle.hilti_module.specs.declared.module.Shape.{Shape}
+use Rattle.hilti_module.specs.declared.module.Shape.TheVariants as shapes
+use Rattle.hilti_module.specs.declared.module.Item.{Item}
+use Rattle.hilti_module.specs.declared.module.Item.TheVariants as items
+use Rattle.hilti_module.specs.Counts.{operand_count, line_count, body_count, shape_count, item_count, module_count}
+use Rattle.hilti_read_literals.specs.Literals.{TimePart, time_part}
+use Rattle.hilti_read_operands.specs.Operands.{other_tree, simple_tree, group_tree, operand_of, operands_tree}
+use Rattle.hilti_syntax.specs.Items.{is_reserved, instruction_tree, behind_first_word, behind_target, handler_tree, line_tree, local_tree, body_tree, behind_hook, hook_tree, item_tree, items_tree}
+use Rattle.hilti_read_shapes.specs.Shapes.{parameter_tree, inside_tree, arguments_tree, field_tree, shape_tree}
+use Rattle.hilti_reader.specs.Modules.{RuleName, RuleName.ModuleText, RuleName.ItemText, RuleName.HookRest, RuleName.HookBody, RuleName.Arguments, RuleName.Params, RuleName.ShapeText, RuleName.FieldText, RuleName.BodyText, RuleName.LineText, RuleName.AfterWord, RuleName.InstructionText, RuleName.Operands, RuleName.OperandsBehindTime, RuleName.GroupText, RuleName.SimpleText, RuleName.OtherSimple, RuleName.Parametric, RuleName.Container, RuleName.NameText, word, comma, maybe, typed_word, time_words, handler, local_line}
+use Rattle.hilti_reader.specs.Spelled.{ModuleTree, word_tree, behind_mark}
+use Rattle.hilti_refusals.proofs.AtLeast.{AtLeast, Solid, fewer, none, solid_one, solid_first, solid_either, solid_rule, some, one, both, first, second, left, right, by_rule, no_choice, many, as_many, as_many_separated}
 
 a_parameter : (parameter : Parameter) → AtLeast 1 typed_word (parameter_tree parameter)
 a_parameter parameter = second one

@@ -2,10 +2,10 @@
 use Rattle.std.proofs.Common.{◌≡◌, Bool, List, [], ◌∷◌, ◌++◌, refl, sym, subst}
 use Rattle.hilti_grammar.specs.Grammar.{Symbol.Rule, sees}
 use Rattle.hilti_grammar.specs.Predictive.{known}
-use Rattle.hilti_syntax.specs.declared.kind.Kind.TheVariants as kinds
-use Rattle.hilti_syntax.specs.declared.kind.Kind.{Kind}
-use Rattle.hilti_syntax.specs.declared.piece.Piece.{Piece}
-use Rattle.hilti_syntax.specs.Modules.{RuleName.LineText as a_line, RuleName.ItemText as an_item, grammar, told_rules, words, reserved_words, plain_types}
+use Rattle.hilti_kinds.specs.declared.kind.Kind.TheVariants as kinds
+use Rattle.hilti_kinds.specs.declared.kind.Kind.{Kind}
+use Rattle.hilti_kinds.specs.declared.piece.Piece.{Piece}
+use Rattle.hilti_reader.specs.Modules.{RuleName.LineText as a_line, RuleName.ItemText as an_item, grammar, told_rules, words, reserved_words, plain_types}
 
 abbrev line_starts : List Kind
 line_starts = words ++ (reserved_words ++ (kinds.AtSign ∷ []))

@@ -5,21 +5,23 @@ use Rattle.hilti_base.specs.declared.refusal.Refusal.{Refusal}
 use Rattle.hilti_lexer.specs.declared.token.Token.{Token}
 use Rattle.hilti_grammar.specs.Grammar.{Symbol.Rule}
 use Rattle.hilti_grammar.specs.Runs.{Outcome.Done, Outcome.Failed}
-use Rattle.hilti_syntax.specs.declared.module.Module.{Module}
-use Rattle.hilti_syntax.specs.declared.piece.Piece.{Piece}
-use Rattle.hilti_syntax.specs.declared.stop.Stop.{Stop}
-use Rattle.hilti_syntax.specs.declared.stop.Stop.TheVariants as stops
+use Rattle.hilti_module.specs.declared.module.Module.{Module}
+use Rattle.hilti_kinds.specs.declared.piece.Piece.{Piece}
+use Rattle.hilti_reader.specs.declared.stop.Stop.{Stop}
+use Rattle.hilti_reader.specs.declared.stop.Stop.TheVariants as stops
 use Rattle.hilti_syntax.specs.Items.{module_tree}
-use Rattle.hilti_syntax.specs.Modules.{RuleName.ModuleText as a_module}
-use Rattle.hilti_syntax.specs.Pieces.{pieces_of}
-use Rattle.hilti_syntax.specs.Readers.{refuses}
-use Rattle.hilti_syntax.specs.Refusals.{FirstRefused, first_place}
+use Rattle.hilti_reader.specs.Modules.{RuleName.ModuleText as a_module}
+use Rattle.hilti_pieces.specs.Pieces.{pieces_of}
+use Rattle.hilti_reader.specs.Readers.{refuses}
+use Rattle.hilti_refusals.specs.Refusals.{FirstRefused}
+use Rattle.hilti_reader.specs.Readers.{first_place}
 use Rattle.std.specs.Prelude.{Result, Err}
 use Rattle.hilti_lexer.specs.Readings.{Lexes, Refuses}
-use Rattle.hilti_syntax.specs.Ends.{end_of}
-use Rattle.hilti_syntax.specs.Texts.{is_nil, AreModule, TextRefused, code_of_stop}
-use Rattle.hilti_syntax.proofs.Exits.{Goes}
-use Rattle.hilti_syntax.proofs.ShallowDerives.{reads_text}
+use Rattle.hilti_pieces.specs.Ends.{end_of}
+use Rattle.hilti_reader.specs.Readers.{is_nil}
+use Rattle.hilti_syntax.specs.Texts.{AreModule, TextRefused, code_of_stop}
+use Rattle.hilti_reader.proofs.Exits.{Goes}
+use Rattle.hilti_refusals.proofs.ShallowDerives.{reads_text}
 
 -- all tokens were read
 pub all_read : (tokens : List Token) (end_place : Place) (before after : List Piece) (m : Module) → before ≡ pieces_of tokens end_place → is_nil after ≡ true →

@@ -1,16 +1,3 @@
-pub mod Pieces
-pub mod Ends
-pub mod Surroundings
-pub mod Refusals
-pub mod Kinds
-pub mod Modules
-pub mod Readers
-pub mod Spelled
-pub mod Trees
-pub mod Loops
 pub mod Items
-pub mod Counts
 pub mod Parts
 pub mod Texts
-pub mod Promises
-pub mod Operands

@@ -1,48 +1,46 @@
 //! The reader of a module's whole text.
-ghost use Rattle.std.specs.Prelude.{◌≡◌, ◌≤◌, ℕ, List, length, IsTrue, IfOk, Err};
+ghost use Rattle.std.specs.Prelude.{◌≡◌, ◌≤◌, length, IfOk, Err};
 ghost use Rattle.hilti_grammar.specs.Grammar.{Symbol.Rule};
 ghost use Rattle.hilti_base.specs.declared.names.Place.{Place};
-ghost use Rattle.hilti_lexer.specs.declared.token.Token.{Token as AToken};
-ghost use Rattle.hilti_syntax.specs.declared.stop.Stop.{Stop};
+ghost use Rattle.hilti_reader.specs.declared.stop.Stop.{Stop};
 ghost use Rattle.hilti_syntax.specs.Items.{module_tree};
-ghost use Rattle.hilti_syntax.specs.Modules.{RuleName.ModuleText as a_module};
-ghost use Rattle.hilti_syntax.specs.Pieces.{pieces_of};
-ghost use Rattle.hilti_syntax.specs.Readers.{ReadsTree, refuses};
-ghost use Rattle.hilti_syntax.specs.Refusals.{FirstRefused, first_place};
-ghost use Rattle.hilti_syntax.specs.Texts.{AreModule, TextIsModule, TextRefused, code_of_stop};
+ghost use Rattle.hilti_reader.specs.Modules.{RuleName.ModuleText as a_module};
+ghost use Rattle.hilti_reader.specs.Readers.{ReadsTree};
+ghost use Rattle.hilti_syntax.specs.Texts.{TextIsModule, RefusedText, ReadsModule, RefusesPieces, IsRefusalOf};
 
-use crate::cursor::Cursor;
-use crate::kind::Kind;
-use crate::module::Module;
-use crate::piece_list::end_place;
 use crate::read_items::read_items;
-use crate::stop::Stop;
 use hilti_base::{Place, Refusal};
+use hilti_kinds::Kind;
 use hilti_lexer::lex;
+use hilti_module::Module;
+use hilti_pieces::{end_place, pieces};
+use hilti_reader::{Cursor, Stop};
 use std::alloc::Global;
 
-/// Reads the text of a module. It is refused with the code of the lexer's fault, 10 at a token that the grammar doesn't
-/// allow, its end counted as one, and 11 at a `<` with 64 others open. `NoMemory` may come at any token. It takes time
-/// in proportion to the text.
+/// Reads the text of a module. It is refused with the code of the lexer's fault, 10 at a token that
+/// the grammar doesn't allow, its end counted as one, and 11 at a `<` with 64 others open.
+/// `NoMemory` may come at any token. It takes time in proportion to the text.
 pub fn read_module(alloc: Global, file: u32, text: &[u8]) -> Result<Module, Refusal>
     requires { length text.now ≤ 1048576 }
     ensures module { IfOk result (λ m. TextIsModule file text.now m) }
-    ensures refusal { (place : Place) (code : ℕ) → result ≡ Err (Refusal.At place code) → TextRefused file text.now code place }
+    ensures refusal { RefusedText file text.now result }
 {
     let tokens = lex(alloc, file, text)?;
     let end = end_place(file, text);
-    let mut cursor = Cursor::new(alloc, tokens, end)?;
+    let pieces = pieces(alloc, tokens, end)?;
+    let mut cursor = Cursor::new(alloc, pieces);
     match read_all(&mut cursor) {
         Ok(module) => Ok(module),
         Err(stop) => Err(refusal_at(stop, cursor.next_place(end))),
     }
 }
 
-/// Reads all tokens as a module. They are at most 1,048,577: one for each byte of the longest text, and its end.
+/// Reads all tokens as a module. They are at most 1,048,577: one for each byte of the longest text,
+/// and its end.
 fn read_all(cursor: &mut Cursor) -> Result<Module, Stop>
     requires { length cursor.old ≤ 1048577 }
-    ensures module { (tokens : List AToken) (end : Place) → cursor.old ≡ pieces_of tokens end → IfOk result (λ m. AreModule tokens end m) }
-    ensures refusal { (tokens : List AToken) (end : Place) (stop : Stop) → cursor.old ≡ pieces_of tokens end → result ≡ Err stop → IsTrue (refuses stop) → FirstRefused tokens end stop (first_place cursor.new end) }
+    ensures module { ReadsModule cursor.old result }
+    ensures refusal { RefusesPieces cursor.old result cursor.new }
 {
     let module = read_whole(cursor)?;
     if !cursor.is_at_end() {
@@ -65,7 +63,7 @@ fn read_whole(cursor: &mut Cursor) -> Result<Module, Stop>
 
 /// The refusal of tokens where reading stopped.
 fn refusal_at(stop: Stop, place: Place) -> Refusal
-    ensures { (there : Place) (code : ℕ) → result ≡ Refusal.At there code → IsTrue (refuses stop) × (there ≡ place) × (code ≡ code_of_stop stop) }
+    ensures { IsRefusalOf stop place result }
 {
     match stop {
         Stop::Unexpected => Refusal::At { place, code: 10 },

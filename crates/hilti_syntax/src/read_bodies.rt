@@ -1,18 +1,15 @@
 //! Readers of bodies.
 ghost use Rattle.std.specs.Prelude.{◌≡◌, ◌<◌, ◌≤◌, length, OnOk};
 ghost use Rattle.hilti_grammar.specs.Grammar.{Symbol.Rule, Symbol.Many};
-ghost use Rattle.hilti_syntax.specs.Modules.{RuleName.LineText as a_line, RuleName.BodyText as a_body};
-ghost use Rattle.hilti_syntax.specs.Readers.{ReadsTree};
-ghost use Rattle.hilti_syntax.specs.Items.{local_tree, body_tree};
-ghost use Rattle.hilti_syntax.specs.Parts.{local_line, locals_tree, lines_tree};
+ghost use Rattle.hilti_reader.specs.Modules.{RuleName.LineText as a_line, RuleName.BodyText as a_body, local_line};
+ghost use Rattle.hilti_reader.specs.Readers.{ReadsTree};
+ghost use Rattle.hilti_syntax.specs.Items.{local_tree, body_tree, locals_tree, lines_tree};
 
-use crate::cursor::Cursor;
-use crate::kind::Kind;
-use crate::module::{Body, Lines, Parameter, Parameters};
-use crate::read_chosen::read_close_brace;
 use crate::read_lines::read_line;
-use crate::read_parameters::read_parameter;
-use crate::stop::Stop;
+use hilti_kinds::Kind;
+use hilti_module::{Body, Lines, Parameter, Parameters};
+use hilti_read_shapes::read_parameter;
+use hilti_reader::{Cursor, Stop, read_close_brace};
 
 /// What begins a line: a word, reserved or not, or the `@` of a label.
 const LINE_STARTS: [Kind; 39] = [

@@ -1,24 +1,21 @@
 //! Readers of what stands behind the first word of a hook.
 ghost use Rattle.std.specs.Prelude.{◌≡◌, ◌<◌, ◌≤◌, length, IfOk, OnOk};
-ghost use Rattle.hilti_grammar.specs.Grammar.{Symbol.Rule, Tree.Left, Tree.Right, Tree.Pair};
-ghost use Rattle.hilti_syntax.specs.Modules.{RuleName.HookRest as hook_rest, RuleName.HookBody as hook_body};
-ghost use Rattle.hilti_syntax.specs.Readers.{ReadsTree};
-ghost use Rattle.hilti_syntax.specs.Spelled.{word_tree, behind_mark};
-ghost use Rattle.hilti_syntax.specs.Items.{hook_tree, item_tree};
-ghost use Rattle.hilti_syntax.specs.Parts.{a_priority, priority_tree, behind_hook_word};
+ghost use Rattle.hilti_grammar.specs.Grammar.{Symbol.Rule};
+ghost use Rattle.hilti_reader.specs.Modules.{RuleName.HookRest as hook_rest, RuleName.HookBody as hook_body, a_priority, maybe};
+ghost use Rattle.hilti_reader.specs.Readers.{ReadsTree};
+ghost use Rattle.hilti_syntax.specs.Items.{item_tree, priority_tree, hook_item};
+ghost use Rattle.hilti_syntax.specs.Parts.{behind_hook_word, found_hook};
 
-use crate::cursor::Cursor;
-use crate::kind::Kind;
-use crate::module::{Body, Item};
-use crate::read_arguments::read_arguments;
 use crate::read_bodies::read_body;
-use crate::stop::Stop;
-use crate::types::{Name, Number, Word};
+use hilti_kinds::Kind;
+use hilti_module::{Body, Item, Name, Number, Word};
+use hilti_read_shapes::read_arguments;
+use hilti_reader::{Cursor, Stop};
 
 /// Reads what stands behind the first word of a hook, and gives the whole item.
 pub fn read_hook_rest(cursor: &mut Cursor, first: Word) -> Result<Item, Stop>
     ensures reads { ReadsTree (Rule hook_rest) behind_hook_word cursor.old result cursor.new }
-    ensures item { IfOk result (λ item. item_tree item ≡ Right (Right (Left (behind_mark (Pair (word_tree first) (behind_hook_word item)))))) }
+    ensures item { IfOk result (λ item. item_tree item ≡ hook_item first (behind_hook_word item)) }
     ensures shorter { OnOk result (length cursor.new < length cursor.old) }
 {
     if cursor.sees(&[Kind::Scope]) {
@@ -58,7 +55,7 @@ pub fn read_hook_rest(cursor: &mut Cursor, first: Word) -> Result<Item, Stop>
 
 /// Reads the priority and the body of a hook.
 pub fn read_hook_body(cursor: &mut Cursor) -> Result<(Option<Number>, Body), Stop>
-    ensures reads { ReadsTree (Rule hook_body) (λ hook. hook_tree hook.0 hook.1) cursor.old result cursor.new }
+    ensures reads { ReadsTree (Rule hook_body) found_hook cursor.old result cursor.new }
     ensures shorter { OnOk result (length cursor.new < length cursor.old) }
 {
     let priority = read_priority(cursor)?;
@@ -68,7 +65,7 @@ pub fn read_hook_body(cursor: &mut Cursor) -> Result<(Option<Number>, Body), Sto
 
 /// Reads a priority, if one is there.
 fn read_priority(cursor: &mut Cursor) -> Result<Option<Number>, Stop>
-    ensures reads { ReadsTree a_priority priority_tree cursor.old result cursor.new }
+    ensures reads { ReadsTree (maybe a_priority) priority_tree cursor.old result cursor.new }
     ensures shorter { OnOk result (length cursor.new ≤ length cursor.old) }
 {
     if !cursor.sees(&[Kind::Priority]) {

@@ -1,19 +1,17 @@
 //! Readers of instructions.
 ghost use Rattle.std.specs.Prelude.{◌≡◌, ◌<◌, ◌≤◌, length, IfOk, OnOk};
-ghost use Rattle.hilti_grammar.specs.Grammar.{Symbol.Rule, Symbol.One, Symbol.◌▹◌, Keep.Placed};
-ghost use Rattle.hilti_syntax.specs.Modules.{RuleName.InstructionText as an_instruction, RuleName.Operands as the_operands, any_words, line_end, mark, maybe};
-ghost use Rattle.hilti_syntax.specs.Readers.{ReadsTree};
-ghost use Rattle.hilti_syntax.specs.Spelled.{behind_word, maybe_tree, word_tree};
-ghost use Rattle.hilti_syntax.specs.Items.{behind_first_word, instruction_tree};
-ghost use Rattle.hilti_syntax.specs.declared.kind.Kind.TheVariants as kinds;
+ghost use Rattle.hilti_grammar.specs.Grammar.{Symbol.Rule, Symbol.◌▹◌};
+ghost use Rattle.hilti_reader.specs.Modules.{RuleName.InstructionText as an_instruction, any_words, maybe, behind_first, second_word, one_of};
+ghost use Rattle.hilti_reader.specs.Readers.{ReadsTree};
+ghost use Rattle.hilti_reader.specs.Spelled.{word_tree, maybe_word};
+ghost use Rattle.hilti_kinds.specs.declared.kind.Kind.TheVariants as kinds;
+ghost use Rattle.hilti_syntax.specs.Parts.{whole_tree, rest_tree};
 
-use crate::cursor::Cursor;
-use crate::kind::Kind;
-use crate::module::{Mnemonic, Operands};
-use crate::read_operands::read_operands;
-use crate::stop::Stop;
-use crate::types::Word;
+use hilti_kinds::Kind;
 use hilti_lexer::{Token, TokenKind};
+use hilti_module::{Mnemonic, Operands, Word};
+use hilti_read_operands::read_operands;
+use hilti_reader::{Cursor, Stop};
 
 /// Any words, reserved ones too.
 const ANY_WORDS: [Kind; 39] = [
@@ -67,7 +65,7 @@ pub struct Instruction {
 
 /// Reads an instruction up to the end of its line.
 pub fn read_instruction(cursor: &mut Cursor) -> Result<Instruction, Stop>
-    ensures reads { ReadsTree (Rule an_instruction) (λ instruction. instruction_tree instruction.mnemonic instruction.operands) cursor.old result cursor.new }
+    ensures reads { ReadsTree (Rule an_instruction) whole_tree cursor.old result cursor.new }
     ensures shorter { OnOk result (length cursor.new < length cursor.old) }
 {
     let first = read_any_word(cursor)?;
@@ -77,7 +75,7 @@ pub fn read_instruction(cursor: &mut Cursor) -> Result<Instruction, Stop>
 
 /// Reads what stands behind the first word of an instruction, up to the end of its line.
 pub fn read_behind_first_word(cursor: &mut Cursor, first: Word) -> Result<Instruction, Stop>
-    ensures reads { ReadsTree (maybe (mark kinds.Dot ▹ One Placed any_words) ▹ (Rule the_operands ▹ line_end)) (λ instruction. behind_first_word instruction.mnemonic instruction.operands) cursor.old result cursor.new }
+    ensures reads { ReadsTree behind_first rest_tree cursor.old result cursor.new }
     ensures begins { IfOk result (λ instruction. instruction.mnemonic.first ≡ first) }
     ensures shorter { OnOk result (length cursor.new < length cursor.old) }
 {
@@ -90,7 +88,7 @@ pub fn read_behind_first_word(cursor: &mut Cursor, first: Word) -> Result<Instru
 
 /// Reads the second word of a mnemonic, if there is one.
 fn read_second_word(cursor: &mut Cursor) -> Result<Option<Word>, Stop>
-    ensures reads { ReadsTree (maybe (mark kinds.Dot ▹ One Placed any_words)) (maybe_tree behind_word) cursor.old result cursor.new }
+    ensures reads { ReadsTree (maybe second_word) maybe_word cursor.old result cursor.new }
     ensures shorter { OnOk result (length cursor.new ≤ length cursor.old) }
 {
     if !cursor.sees(&[Kind::Dot]) {
@@ -103,7 +101,7 @@ fn read_second_word(cursor: &mut Cursor) -> Result<Option<Word>, Stop>
 
 /// Reads any word.
 pub fn read_any_word(cursor: &mut Cursor) -> Result<Word, Stop>
-    ensures reads { ReadsTree (One Placed any_words) word_tree cursor.old result cursor.new }
+    ensures reads { ReadsTree (one_of any_words) word_tree cursor.old result cursor.new }
     ensures shorter { OnOk result (length cursor.new < length cursor.old) }
 {
     let Token { place, kind } = cursor.take(&ANY_WORDS)?;

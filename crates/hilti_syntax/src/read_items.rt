@@ -1,23 +1,18 @@
 //! Readers of what modules declare.
 ghost use Rattle.std.specs.Prelude.{◌≡◌, ◌<◌, ◌≤◌, length, OnOk};
 ghost use Rattle.hilti_grammar.specs.Grammar.{Symbol.Rule, Symbol.Many};
-ghost use Rattle.hilti_syntax.specs.Modules.{RuleName.ItemText as an_item};
-ghost use Rattle.hilti_syntax.specs.Readers.{ReadsTree};
-ghost use Rattle.hilti_syntax.specs.Items.{result_tree, item_tree};
-ghost use Rattle.hilti_syntax.specs.Parts.{a_value, value_tree, a_result, items_tree};
+ghost use Rattle.hilti_reader.specs.Modules.{RuleName.ItemText as an_item, a_value, a_result, maybe};
+ghost use Rattle.hilti_reader.specs.Readers.{ReadsTree};
+ghost use Rattle.hilti_syntax.specs.Items.{result_tree, item_tree, value_tree, items_tree};
 
-use crate::cursor::Cursor;
-use crate::kind::Kind;
-use crate::module::{Item, Items, Literal, Parameter};
-use crate::read_arguments::read_arguments;
 use crate::read_bodies::read_body;
 use crate::read_hooks::read_hook_rest;
-use crate::read_literals::read_literal;
-use crate::read_parameters::read_parameter;
-use crate::read_shapes::read_shape;
-use crate::read_types::read_type;
-use crate::stop::Stop;
-use crate::types::TypeText;
+use hilti_kinds::Kind;
+use hilti_module::{Item, Items, Literal, Parameter, TypeText};
+use hilti_read_literals::read_literal;
+use hilti_read_shapes::{read_arguments, read_parameter, read_shape};
+use hilti_read_types::read_type;
+use hilti_reader::{Cursor, Stop};
 
 /// What begins an item: a word or what else begins a type, `void`, `hook`, `global` or `type`.
 const ITEM_STARTS: [Kind; 22] = [
@@ -98,7 +93,7 @@ pub fn read_item(cursor: &mut Cursor) -> Result<Item, Stop>
 
 /// Reads the value of a global, if one is there.
 fn read_value(cursor: &mut Cursor) -> Result<Option<Literal>, Stop>
-    ensures reads { ReadsTree a_value value_tree cursor.old result cursor.new }
+    ensures reads { ReadsTree (maybe a_value) value_tree cursor.old result cursor.new }
     ensures shorter { OnOk result (length cursor.new ≤ length cursor.old) }
 {
     if !cursor.sees(&[Kind::Equals]) {

@@ -1,22 +1,16 @@
 //! Readers of lines.
 ghost use Rattle.std.specs.Prelude.{◌≡◌, ◌<◌, ◌≤◌, false, length, IfOk, OnOk};
-ghost use Rattle.hilti_grammar.specs.Grammar.{Symbol.Rule, Symbol.Many, Tree.Pair, Tree.Right};
-ghost use Rattle.hilti_syntax.specs.Modules.{RuleName.LineText as a_line, RuleName.AfterWord as after_word};
-ghost use Rattle.hilti_syntax.specs.Readers.{ReadsTree};
-ghost use Rattle.hilti_syntax.specs.Spelled.{word_tree};
-ghost use Rattle.hilti_syntax.specs.Items.{handler_tree, is_reserved, line_tree};
-ghost use Rattle.hilti_syntax.specs.Parts.{handler, handlers_tree, label as a_label, label_tree, behind_word_of};
+ghost use Rattle.hilti_grammar.specs.Grammar.{Symbol.Rule, Symbol.Many};
+ghost use Rattle.hilti_reader.specs.Modules.{RuleName.LineText as a_line, RuleName.AfterWord as after_word, handler, label as a_label};
+ghost use Rattle.hilti_reader.specs.Readers.{ReadsTree};
+ghost use Rattle.hilti_syntax.specs.Items.{handler_tree, is_reserved, line_tree, handlers_tree, label_tree, worded_tree};
+ghost use Rattle.hilti_syntax.specs.Parts.{behind_word_of};
 
-use crate::cursor::{Cursor, WORDS};
-use crate::kind::Kind;
-use crate::module::{Handler, Handlers, Line};
-use crate::names::read_name;
-use crate::read_chosen::read_word_of;
 use crate::read_instructions::{read_behind_first_word, read_instruction};
-use crate::read_marks::read_at_sign;
-use crate::stop::Stop;
-use crate::types::{Name, Word};
 use hilti_base::Place;
+use hilti_kinds::Kind;
+use hilti_module::{Handler, Handlers, Line, Name, Word};
+use hilti_reader::{Cursor, Stop, WORDS, read_at_sign, read_keyword, read_name, read_word_of};
 
 /// Reserved words but `local`.
 const RESERVED: [Kind; 33] = [
@@ -60,12 +54,13 @@ pub fn read_handler(cursor: &mut Cursor) -> Result<Handler, Stop>
     ensures reads { ReadsTree handler handler_tree cursor.old result cursor.new }
     ensures shorter { OnOk result (length cursor.new < length cursor.old) }
 {
-    cursor.skip(Kind::Catch)?;
+    let place = read_keyword(cursor, Kind::Catch)?;
     let exception = read_name(cursor)?;
     cursor.skip(Kind::AtSign)?;
     let target = cursor.word()?;
     let slot = cursor.word()?;
     Ok(Handler {
+        place,
         exception,
         target,
         slot,
@@ -87,7 +82,7 @@ pub fn read_handlers(cursor: &mut Cursor) -> Result<Handlers, Stop>
 
 /// Reads a label with its handlers.
 pub fn read_label(cursor: &mut Cursor) -> Result<(Place, Word, Handlers), Stop>
-    ensures reads { ReadsTree a_label (λ label. label_tree label.0 label.1 label.2) cursor.old result cursor.new }
+    ensures reads { ReadsTree a_label label_tree cursor.old result cursor.new }
     ensures shorter { OnOk result (length cursor.new < length cursor.old) }
 {
     let place = read_at_sign(cursor)?;
@@ -129,7 +124,7 @@ pub fn read_line(cursor: &mut Cursor) -> Result<Line, Stop>
 fn read_after_word(cursor: &mut Cursor, first: Word) -> Result<Line, Stop>
     requires { is_reserved first ≡ false }
     ensures reads { ReadsTree (Rule after_word) behind_word_of cursor.old result cursor.new }
-    ensures line { IfOk result (λ line. line_tree line ≡ Right (Right (Pair (word_tree first) (behind_word_of line)))) }
+    ensures line { IfOk result (λ line. line_tree line ≡ worded_tree first (behind_word_of line)) }
     ensures shorter { OnOk result (length cursor.new < length cursor.old) }
 {
     if cursor.sees(&[Kind::Scope]) {

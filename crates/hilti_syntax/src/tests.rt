@@ -3,6 +3,7 @@ ghost use Rattle.std.specs.Prelude.{◌≤◌, length};
 
 use super::*;
 use hilti_base::Refusal;
+use hilti_module::Item;
 use std::alloc::Global;
 use std::test::Fail;
 

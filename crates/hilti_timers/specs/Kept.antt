@@ -25,9 +25,12 @@ AreApart (waiting ∷ rest) = (find nat_cmp waiting.serial.n (map pair rest) ≡
 
 -- the entry at a place has the serial
 abbrev pub IsAt : {E : Type 0} → List (Waiting E) → ℕ → ℕ → Type 0
-IsAt {E} entries at serial = (at < length entries) × ((d : Waiting E) → (slice_index_or entries at d).serial.n ≡ serial)
+IsAt {E} entries at serial =
+    (at < length entries) × ((d : Waiting E) → (slice_index_or entries at d).serial.n ≡ serial)
 
 -- the least stamp that is reached at a time, if there is one
 abbrev pub IsLeast : ℕ → List (ℕ × ℕ) → Option (ℕ × Serial) → Type 0
 IsLeast t stamps None = All (λ s. t < s.0) stamps
-IsLeast t stamps (Some best) = Contains stamps (best.0, best.1.n) × (best.0 ≤ t) × All (λ s. s.0 ≤ t → IsNoLater best.0 best.1.n s.0 s.1) stamps
+IsLeast t stamps (Some best) =
+    Contains stamps (best.0, best.1.n) × (best.0 ≤ t)
+    × All (λ s. s.0 ≤ t → IsNoLater best.0 best.1.n s.0 s.1) stamps

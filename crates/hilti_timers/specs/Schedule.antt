@@ -20,7 +20,8 @@ IsNoLater due serial due' serial' = (due < due') ⊎ ((due ≡ due') × (serial 
 pub record IsNextDue {E : Type 0} (schedule : Schedule E) (t due serial : ℕ) : Type 0 where
   pub waits : IsDueAt schedule due serial
   pub reached : due ≤ t
-  pub least : (due' serial' : ℕ) → IsDueAt schedule due' serial' → due' ≤ t → IsNoLater due serial due' serial'
+  pub least : (due' serial' : ℕ) → IsDueAt schedule due' serial' → due' ≤ t
+      → IsNoLater due serial due' serial'
 
 -- every entry waits for a later time
 abbrev pub NothingIsDue : {E : Type 0} → Schedule E → ℕ → Type 0
@@ -28,4 +29,6 @@ NothingIsDue schedule t = (due serial : ℕ) → IsDueAt schedule due serial →
 
 -- the entry of a serial has another due time and serial, if there is one
 abbrev pub IsRenewed : {E : Type 0} → Schedule E → Schedule E → ℕ → ℕ → ℕ → Type 0
-IsRenewed before after serial due fresh = MatchOption (get before serial) (after ≡ before) (λ waiting. after ≡ insert (remove before serial) fresh (due, waiting.1))
+IsRenewed before after serial due fresh =
+    MatchOption (get before serial) (after ≡ before)
+    (λ waiting. after ≡ insert (remove before serial) fresh (due, waiting.1))

@@ -106,7 +106,7 @@ impl<E> Manager<E> {
     }
 }
 
-// Where the entry of a serial stands.
+/// Where the entry of a serial stands.
 fn place<E>(entries: &[Waiting<E>], serial: Serial) -> Option<usize>
     ensures some { IfSome result (λ at. IsAt entries.now at serial.n) }
     ensures none { IsNone result → find nat_cmp serial.n (map pair entries.now) ≡ None }
@@ -119,7 +119,7 @@ fn place<E>(entries: &[Waiting<E>], serial: Serial) -> Option<usize>
     None
 }
 
-// The least due time that is not above a time, with the least serial of that due time.
+/// The least due time that is not above a time, with the least serial of that due time.
 fn least<E>(entries: &[Waiting<E>], t: u64) -> Option<(u64, Serial)>
     ensures { IsLeast t (map stamp entries.now) result }
 {
@@ -130,9 +130,10 @@ fn least<E>(entries: &[Waiting<E>], t: u64) -> Option<(u64, Serial)>
     best
 }
 
-// The earlier of the best so far and an entry that is due.
+/// The earlier of the best so far and an entry that is due.
 fn earlier<E>(best: Option<(u64, Serial)>, waiting: &Waiting<E>, t: u64) -> Option<(u64, Serial)>
-    ensures { (seen : List (ℕ × ℕ)) → IsLeast t seen best → IsLeast t (seen ++ stamp waiting.now ∷ []) result }
+    ensures { (seen : List (ℕ × ℕ)) → IsLeast t seen best
+        → IsLeast t (seen ++ stamp waiting.now ∷ []) result }
 {
     if waiting.due > t {
         return best;

@@ -4,19 +4,18 @@ use Rattle.std.specs.List.{AllByRecursion}
 use Rattle.hilti_base.specs.declared.names.Place.{Place}
 use Rattle.hilti_lexer.specs.declared.token.Token.{Token}
 use Rattle.hilti_lexer.specs.Readings.{Lexes, Refuses}
-use Rattle.hilti_syntax.specs.declared.module.Module.{Module}
-use Rattle.hilti_syntax.specs.Ends.{end_of}
+use Rattle.hilti_module.specs.declared.module.Module.{Module}
+use Rattle.hilti_pieces.specs.Ends.{end_of}
 use Rattle.hilti_syntax.specs.Items.{module_tree}
-use Rattle.hilti_syntax.specs.Refusals.{DerivesModule, NeverBoth}
+use Rattle.hilti_refusals.specs.Refusals.{DerivesModule, NeverBoth}
 use Rattle.hilti_syntax.specs.Texts.{TextIsModule, TextRefused}
 use Rattle.hilti_link.specs.Refusals.{first_refusal}
-use Rattle.hilti_reading.specs.OneModule.{OneList, OneName}
+use Rattle.hilti_reading.specs.OneModule.{OneModule}
 use Rattle.hilti_top.specs.declared.printing.Parameter.{Parameter}
 use Rattle.hilti_top.specs.ModuleTexts.{AreFrom, AreModules, IsAccepted, IsRefused, IsRefused.Length, IsRefused.Reading, IsRefused.Linking, IsRefused.Form, IsShort, IsTooLong, IsUnread}
 use Rattle.hilti_top.specs.Printing.{Prints}
 use Rattle.hilti_top.proofs.Forms as forms
 use Rattle.hilti_top.proofs.Reading.{are_at}
-use Rattle.hilti_top.proofs.Settled.{main_alone}
 use Rattle.hilti_top.proofs.Zips.{all_at}
 
 abbrev pub ReadOrRefused : Type 0
@@ -46,31 +45,31 @@ not_long texts place code short long =
     omega (arith, within, long.long)
 
 -- texts that are modules of the one form are no other modules
-modules_alone : OneName → OneList → (texts : List (List ℕ)) (ms ns : List Module) (lines : List (List Parameter))
+modules_alone : OneModule → (texts : List (List ℕ)) (ms ns : List Module) (lines : List (List Parameter))
     → Prints ms lines → AreModules texts ms → AreModules texts ns → ms ≡ ns
 unfolding AreFrom
-modules_alone name list texts [] ns lines prints are also = absurd prints
-modules_alone name list texts (m ∷ other ∷ ms) ns lines prints are also = absurd prints
-modules_alone name list [] (m ∷ []) ns lines prints are also = absurd are
-modules_alone name list (text ∷ other ∷ texts) (m ∷ []) ns lines prints are also = absurd are.1
-modules_alone name list (text ∷ []) (m ∷ []) [] lines prints are also = absurd also
-modules_alone name list (text ∷ []) (m ∷ []) (n ∷ []) lines prints are also =
-    ap (λ one. one ∷ []) (main_alone name list 0 text m n lines prints are.0 also.0)
-modules_alone name list (text ∷ []) (m ∷ []) (n ∷ other ∷ ns) lines prints are also = absurd also.1
+modules_alone one_module texts [] ns lines prints are also = absurd prints
+modules_alone one_module texts (m ∷ other ∷ ms) ns lines prints are also = absurd prints
+modules_alone one_module [] (m ∷ []) ns lines prints are also = absurd are
+modules_alone one_module (text ∷ other ∷ texts) (m ∷ []) ns lines prints are also = absurd are.1
+modules_alone one_module (text ∷ []) (m ∷ []) [] lines prints are also = absurd also
+modules_alone one_module (text ∷ []) (m ∷ []) (n ∷ []) lines prints are also =
+    ap (λ one. one ∷ []) (one_module 0 text m n are.0 also.0)
+modules_alone one_module (text ∷ []) (m ∷ []) (n ∷ other ∷ ns) lines prints are also = absurd also.1
 
-pub never_both : ReadOrRefused → OneReading → NeverBoth → OneName → OneList
+pub never_both : ReadOrRefused → OneReading → NeverBoth → OneModule
     → (texts : List (List ℕ)) (lines : List (List Parameter)) (place : Place) (code : ℕ) → IsAccepted texts lines → IsRefused texts place code → ⊥
-never_both read_or_refused one_reading never name list texts lines place code is (Length long) = not_long texts place code is.short long
-never_both read_or_refused one_reading never name list texts lines place code is (Reading short unread) =
+never_both read_or_refused one_reading never one_module texts lines place code is (Length long) = not_long texts place code is.short long
+never_both read_or_refused one_reading never one_module texts lines place code is (Reading short unread) =
     not_unread read_or_refused one_reading never texts is.modules place code is.are unread
-never_both read_or_refused one_reading never name list texts lines place code is (Linking short refused) =
-    let same = modules_alone name list texts is.modules refused.modules lines is.prints is.are refused.are in
+never_both read_or_refused one_reading never one_module texts lines place code is (Linking short refused) =
+    let same = modules_alone one_module texts is.modules refused.modules lines is.prints is.are refused.are in
     cc (is.link, ap first_refusal same, refused.refused)
-never_both read_or_refused one_reading never name list texts lines place code is (Form short refused) =
-    let same = modules_alone name list texts is.modules refused.modules lines is.prints is.are refused.are in
+never_both read_or_refused one_reading never one_module texts lines place code is (Form short refused) =
+    let same = modules_alone one_module texts is.modules refused.modules lines is.prints is.are refused.are in
     refused.other lines (subst (λ modules. Prints modules lines) same is.prints)
 
-pub one_list : OneName → OneList → (texts : List (List ℕ)) (lines others : List (List Parameter)) → IsAccepted texts lines → IsAccepted texts others → lines ≡ others
-one_list name list texts lines others is also =
-    let same = modules_alone name list texts is.modules also.modules lines is.prints is.are also.are in
+pub one_list : OneModule → (texts : List (List ℕ)) (lines others : List (List Parameter)) → IsAccepted texts lines → IsAccepted texts others → lines ≡ others
+one_list one_module texts lines others is also =
+    let same = modules_alone one_module texts is.modules also.modules lines is.prints is.are also.are in
     forms.one_list also.modules lines others (subst (λ modules. Prints modules lines) same is.prints) also.prints

@@ -4,8 +4,8 @@ mod Named
 mod PacketCalls
 mod Reading
 mod Running
-mod Settled
 mod Shapes
 mod Typed
 mod Zips
 pub mod NotYet
+pub mod Opened

@@ -6,17 +6,17 @@ use Rattle.std.proofs.lemmas.Slice.Zip.{AllZip-long}
 use Rattle.std.proofs.lemmas.Bool.{false≢true}
 use Rattle.std.specs.List.{AllZip}
 use Rattle.std.specs.Option.{is_some}
-use Rattle.hilti_syntax.specs.declared.types.Name.{Name}
-use Rattle.hilti_syntax.specs.declared.types.Word.{Word}
-use Rattle.hilti_syntax.specs.declared.types.TypeText.{TypeText}
-use Rattle.hilti_syntax.specs.declared.module.Item.{Item}
-use Rattle.hilti_syntax.specs.declared.module.Item.TheVariants as items
-use Rattle.hilti_syntax.specs.declared.module.Parameter.{Parameter as Declared}
-use Rattle.hilti_syntax.specs.declared.module.Body.{Body}
-use Rattle.hilti_syntax.specs.declared.module.Line.{Line}
-use Rattle.hilti_syntax.specs.declared.module.Line.TheVariants as lines
-use Rattle.hilti_syntax.specs.declared.module.Mnemonic.{Mnemonic}
-use Rattle.hilti_syntax.specs.declared.module.Operand.{Operand}
+use Rattle.hilti_module.specs.declared.types.Name.{Name}
+use Rattle.hilti_module.specs.declared.types.Word.{Word}
+use Rattle.hilti_module.specs.declared.types.TypeText.{TypeText}
+use Rattle.hilti_module.specs.declared.module.Item.{Item}
+use Rattle.hilti_module.specs.declared.module.Item.TheVariants as items
+use Rattle.hilti_module.specs.declared.module.Parameter.{Parameter as Declared}
+use Rattle.hilti_module.specs.declared.module.Body.{Body}
+use Rattle.hilti_module.specs.declared.module.Line.{Line}
+use Rattle.hilti_module.specs.declared.module.Line.TheVariants as lines
+use Rattle.hilti_module.specs.declared.module.Mnemonic.{Mnemonic}
+use Rattle.hilti_module.specs.declared.module.Operand.{Operand}
 use Rattle.hilti_top.specs.declared.printing.Parameter.{Parameter}
 use Rattle.hilti_top.specs.Printing.{ArePrints, IsOperand, IsPacket, IsPacketItem, IsPrint, IsPrintWord, IsReturn}
 

@@ -43,14 +43,3 @@ zip_once R one (x ∷ xs) [] zs all also = absurd all
 zip_once R one (x ∷ xs) (y ∷ ys) [] all also = absurd also
 zip_once R one (x ∷ xs) (y ∷ ys) (z ∷ zs) all also =
     ap (λ head. head ∷ ys) (one x y z all.0 also.0) ∙ ap (λ rest. z ∷ rest) (zip_once R one xs ys zs all.1 also.1)
-
--- a list is another, where they have one image, and an item of it is any item of the same image
-pub zip_same : {A B C : Type 0} (R : A → B → Type 0) (f : A → C) → ((a b : A) (y : B) → R a y → f a ≡ f b → a ≡ b)
-    → (xs zs : List A) (ys : List B) → AllZip R xs ys → map f xs ≡ map f zs → xs ≡ zs
-zip_same R f one [] [] ys all e = refl
-zip_same R f one [] (z ∷ zs) ys all e = cc
-zip_same R f one (x ∷ xs) [] ys all e = cc
-zip_same R f one (x ∷ xs) (z ∷ zs) [] all e = absurd all
-zip_same R f one (x ∷ xs) (z ∷ zs) (y ∷ ys) all e =
-    ap (λ head. head ∷ xs) (one x z y all.0 (let here : f x ≡ f z = cc in here))
-    ∙ ap (λ rest. z ∷ rest) (zip_same R f one xs zs ys all.1 (let here : map f xs ≡ map f zs = cc in here))

@@ -1,6 +1,8 @@
+pub mod Absence
 pub mod InputFaults
 pub mod Inputs
 pub mod ModuleTexts
+pub mod Opening
 pub mod Printing
 pub mod Program
 pub mod Report

@@ -3,7 +3,7 @@ use Rattle.std.specs.Prelude.{◌≡◌, ℕ, suc, ◌<◌, ◌≤◌, List, [],
 use Rattle.std.specs.List.{AllByRecursion}
 use Rattle.hilti_base.specs.declared.names.Place.{Place}
 use Rattle.hilti_base.specs.declared.refusal.Refusal.TheVariants.{At}
-use Rattle.hilti_syntax.specs.declared.module.Module.{Module}
+use Rattle.hilti_module.specs.declared.module.Module.{Module}
 use Rattle.hilti_syntax.specs.Texts.{TextIsModule, TextRefused}
 use Rattle.hilti_link.specs.Refusals.{first_refusal}
 use Rattle.hilti_top.specs.declared.printing.Parameter.{Parameter}
@@ -22,7 +22,8 @@ unfoldable pub AreFrom : ℕ → List (List ℕ) → List Module → Type 0
 AreFrom file [] [] = Unit {0}
 AreFrom file [] (m ∷ modules) = ⊥
 AreFrom file (text ∷ texts) [] = ⊥
-AreFrom file (text ∷ texts) (m ∷ modules) = TextIsModule file text m × AreFrom (suc file) texts modules
+AreFrom file (text ∷ texts) (m ∷ modules) =
+    TextIsModule file text m × AreFrom (suc file) texts modules
 
 -- each text is the module of its place
 abbrev pub AreModules : List (List ℕ) → List Module → Type 0
@@ -63,7 +64,8 @@ pub record IsUnlinked (texts : List (List ℕ)) (place : Place) (code : ℕ) : T
   pub are : AreModules texts modules
   pub refused : first_refusal modules ≡ Some (At place code)
 
--- all texts are modules that link, which aren't of the form that runs: the answer is the start of the first, with code 60
+-- all texts are modules that link, which aren't of the form that runs: the answer is the start of
+-- the first, with code 60
 pub record IsNotYet (texts : List (List ℕ)) (place : Place) (code : ℕ) : Type 0 where
   pub modules : List Module
   pub are : AreModules texts modules

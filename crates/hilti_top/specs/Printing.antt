@@ -1,25 +1,26 @@
--- The one form of modules that runs today: `module Main` alone, whose one item is a function `packet` that prints its
--- parameters and returns.
-use Rattle.std.specs.Prelude.{◌≡◌, ◌≢◌, ℕ, ◌<◌, ◌≤◌, Bool, true, false, List, [], ◌∷◌, ◌++◌, length, codes, None, IsTrue, IsSomeAnd}
+-- The one form of modules that runs today: `module Main` alone, whose one item is a function
+-- `packet` that prints its parameters and returns.
+use Rattle.std.specs.Prelude.{◌≡◌, ◌≢◌, ℕ, ◌<◌, ◌≤◌, Bool, true, false, List, [], ◌∷◌, ◌++◌, length}
+use Rattle.std.specs.Prelude.{codes, None, IsTrue, IsSomeAnd}
 use Rattle.std.specs.List.{AllByRecursion, AllZip}
-use Rattle.hilti_syntax.specs.declared.types.TypeText.{TypeText}
-use Rattle.hilti_syntax.specs.declared.types.TypeText.TheVariants as types
-use Rattle.hilti_syntax.specs.declared.types.Parametric.TheVariants as parametric
-use Rattle.hilti_syntax.specs.declared.types.InnerText.TheVariants as inner
-use Rattle.hilti_syntax.specs.declared.types.PlainType.TheVariants as plain
-use Rattle.hilti_syntax.specs.declared.types.PlainInner.TheVariants as plain_inner
-use Rattle.hilti_syntax.specs.declared.types.Word.{Word}
-use Rattle.hilti_syntax.specs.declared.module.Module.{Module}
-use Rattle.hilti_syntax.specs.declared.module.Item.{Item}
-use Rattle.hilti_syntax.specs.declared.module.Item.TheVariants as items
-use Rattle.hilti_syntax.specs.declared.module.Parameter.{Parameter as Declared}
-use Rattle.hilti_syntax.specs.declared.module.Body.{Body}
-use Rattle.hilti_syntax.specs.declared.module.Line.{Line}
-use Rattle.hilti_syntax.specs.declared.module.Line.TheVariants as lines
-use Rattle.hilti_syntax.specs.declared.module.Mnemonic.{Mnemonic}
-use Rattle.hilti_syntax.specs.declared.module.Operand.{Operand}
-use Rattle.hilti_syntax.specs.declared.module.Operand.TheVariants as operands
-use Rattle.hilti_syntax.specs.declared.module.Simple.TheVariants as simples
+use Rattle.hilti_module.specs.declared.types.TypeText.{TypeText}
+use Rattle.hilti_module.specs.declared.types.TypeText.TheVariants as types
+use Rattle.hilti_module.specs.declared.types.Parametric.TheVariants as parametric
+use Rattle.hilti_module.specs.declared.types.InnerText.TheVariants as inner
+use Rattle.hilti_module.specs.declared.types.PlainType.TheVariants as plain
+use Rattle.hilti_module.specs.declared.types.PlainInner.TheVariants as plain_inner
+use Rattle.hilti_module.specs.declared.types.Word.{Word}
+use Rattle.hilti_module.specs.declared.module.Module.{Module}
+use Rattle.hilti_module.specs.declared.module.Item.{Item}
+use Rattle.hilti_module.specs.declared.module.Item.TheVariants as items
+use Rattle.hilti_module.specs.declared.module.Parameter.{Parameter as Declared}
+use Rattle.hilti_module.specs.declared.module.Body.{Body}
+use Rattle.hilti_module.specs.declared.module.Line.{Line}
+use Rattle.hilti_module.specs.declared.module.Line.TheVariants as lines
+use Rattle.hilti_module.specs.declared.module.Mnemonic.{Mnemonic}
+use Rattle.hilti_module.specs.declared.module.Operand.{Operand}
+use Rattle.hilti_module.specs.declared.module.Operand.TheVariants as operands
+use Rattle.hilti_module.specs.declared.module.Simple.TheVariants as simples
 use Rattle.hilti_top.specs.declared.printing.Parameter.{Parameter}
 use Rattle.hilti_top.specs.declared.printing.Parameter.TheVariants.{Time, Bytes}
 
@@ -39,7 +40,8 @@ IsNameOf time bytes word Bytes = (word ≡ bytes) × (word ≢ time)
 
 -- an operand is one word alone, the name of this parameter
 abbrev pub IsOperand : List ℕ → List ℕ → Operand → Parameter → Type 0
-IsOperand time bytes (operands.Simple (simples.Name name)) printed = (name.second ≡ None) × IsNameOf time bytes name.first.bytes printed
+IsOperand time bytes (operands.Simple (simples.Name name)) printed =
+    (name.second ≡ None) × IsNameOf time bytes name.first.bytes printed
 IsOperand time bytes _ printed = ⊥
 
 -- a mnemonic is `print`
@@ -63,9 +65,10 @@ abbrev pub IsReturn : Line → Type 0
 IsReturn (lines.Instruction None mnemonic []) = IsReturnWord mnemonic
 IsReturn _ = ⊥
 
--- Lines are prints of these lists of parameters, and then the return. A call has fuel for fewer than 1,000,000 prints,
--- and a text of at most 1,048,576 bytes has room for no more than 174,762.
-pub record ArePrints (time bytes : List ℕ) (all : List Line) (printed : List (List Parameter)) : Type 0 where
+-- Lines are prints of these lists of parameters, and then the return. A call has fuel for fewer
+-- than 1,000,000 prints, and a text of at most 1,048,576 bytes has room for no more than 174,762.
+pub record ArePrints (time bytes : List ℕ) (all : List Line) (printed : List (List Parameter))
+    : Type 0 where
   pub prints : List Line
   pub last : Line
   pub lines_are : all ≡ prints ++ last ∷ []
@@ -84,8 +87,11 @@ is_bytes (types.Plain place plain.Bytes) = true
 is_bytes (types.Parametric (parametric.Ref place (inner.Word within plain_inner.Bytes))) = true
 is_bytes _ = false
 
--- a function of this name, of a time and bytes, is `packet`, and its body has no locals and prints these lists
-pub record IsPacket (name : Word) (time bytes : Declared) (body : Body) (printed : List (List Parameter)) : Type 0 where
+-- a function of this name, of a time and bytes, is `packet`, and its body has no locals and prints
+-- these lists
+pub record IsPacket
+    (name : Word) (time bytes : Declared) (body : Body) (printed : List (List Parameter))
+    : Type 0 where
   pub named : name.bytes ≡ codes "packet"
   pub time_kind : IsTrue (is_time time.kind)
   pub bytes_kind : IsTrue (is_bytes bytes.kind)
@@ -94,7 +100,8 @@ pub record IsPacket (name : Word) (time bytes : Declared) (body : Body) (printed
 
 -- an item is the void function `packet`, which prints these lists
 abbrev pub IsPacketItem : Item → List (List Parameter) → Type 0
-IsPacketItem (items.Function None name (time ∷ bytes ∷ []) body) printed = IsPacket name time bytes body printed
+IsPacketItem (items.Function None name (time ∷ bytes ∷ []) body) printed =
+    IsPacket name time bytes body printed
 IsPacketItem _ printed = ⊥
 
 -- a module is `Main`, with that item alone

@@ -22,7 +22,8 @@ slot_of Bytes = operands.Var (variables.Slot 1) types.Bytes
 
 -- `print` of the parameters
 abbrev pub print_of : List Parameter → Instruction
-print_of parameters = record { op = ops.Print; target = None; kind = None; operands = map slot_of parameters }
+print_of parameters =
+    record { op = ops.Print; target = None; kind = None; operands = map slot_of parameters }
 
 abbrev pub return_void : Instruction
 return_void = record { op = ops.ReturnVoid; target = None; kind = None; operands = [] }
@@ -43,8 +44,17 @@ function_of lines = record {
 
 -- that function alone
 unfoldable pub parts_of : List (List Parameter) → Parts
-parts_of lines = record { types = []; globals = []; functions = function_of lines ∷ []; exceptions = []; hooks = [] }
+parts_of lines = record {
+  types = [];
+  globals = [];
+  functions = function_of lines ∷ [];
+  exceptions = [];
+  hooks = [];
+}
 
 -- the call of `packet` for a packet
 abbrev pub packet_call : Packet → Call
-packet_call packet = record { function = record { n = 0 }; args = trees.Time packet.time ∷ trees.Bytes packet.bytes ∷ [] }
+packet_call packet = record {
+  function = record { n = 0 };
+  args = trees.Time packet.time ∷ trees.Bytes packet.bytes ∷ [];
+}

@@ -1,4 +1,5 @@
--- The report of a run whose calls are those of `packet`, one for each packet of the capture, on thread 0.
+-- The report of a run whose calls are those of `packet`, one for each packet of the capture, on
+-- thread 0.
 use Rattle.std.specs.Prelude.{ℕ, List, [], ◌∷◌, ◌++◌, length, codes}
 use Rattle.std.specs.Fmt.{decimal}
 use Rattle.std.specs.List.{flat_map, join_by}
@@ -29,7 +30,8 @@ thread_lines lines (packet ∷ packets) =
 
 -- each call is one segment
 abbrev pub total : ℕ → List ℕ
-total calls = codes "total: " ++ decimal calls ++ codes " calls, " ++ decimal calls ++ codes " segments\n"
+total calls =
+    codes "total: " ++ decimal calls ++ codes " calls, " ++ decimal calls ++ codes " segments\n"
 
 abbrev pub report : List (List Parameter) → List Packet → List ℕ
 report lines packets = thread_lines lines packets ++ total (length packets)

@@ -21,4 +21,6 @@ item_line (Send to call) = []
 
 -- the call was run to its end
 abbrev pub Finishes : Runs → Call → Runs → Type 0
-Finishes before call after = (thread : ℕ) (finished : List Call) → before thread finished None → after thread (finished ++ call ∷ []) None
+Finishes before call after =
+    (thread : ℕ) (finished : List Call) →
+    before thread finished None → after thread (finished ++ call ∷ []) None

@@ -2,7 +2,8 @@
 use Rattle.std.specs.Prelude.{ℕ, List, [], ◌++◌, codes}
 use Rattle.std.specs.Fmt.{decimal}
 use Rattle.hilti_top.specs.declared.status.Status.{Status}
-use Rattle.hilti_top.specs.declared.status.Status.TheVariants.{Done, Usage, ReadFault, BadModule, BadCapture, WriteFault, NoMemory}
+use Rattle.hilti_top.specs.declared.status.Status.TheVariants.{Done, Usage, ReadFault, BadModule}
+use Rattle.hilti_top.specs.declared.status.Status.TheVariants.{BadCapture, WriteFault, NoMemory}
 
 abbrev pub number_of : Status → ℕ
 number_of Done = 0
@@ -22,7 +23,8 @@ text_of Done = []
 text_of Usage = codes "hilti: usage: check, one, run or gen; see the manual\n"
 text_of ReadFault = codes "hilti: cannot read\n"
 text_of (BadModule place code) =
-    codes "hilti: module " ++ decimal place.file ++ codes ":" ++ decimal place.line ++ codes ":" ++ decimal place.column ++ code_text code
+    codes "hilti: module " ++ decimal place.file ++ codes ":" ++ decimal place.line
+    ++ codes ":" ++ decimal place.column ++ code_text code
 text_of (BadCapture at code) = codes "hilti: capture at " ++ decimal at ++ code_text code
 text_of WriteFault = codes "hilti: cannot write\n"
 text_of NoMemory = codes "hilti: out of memory\n"

@@ -2,10 +2,9 @@ ghost use Rattle.std.specs.Prelude.{◌≡◌, ◌≢◌, ℕ, List};
 ghost use Rattle.hilti_base.specs.declared.names.Place.{Place as APlace};
 ghost use Rattle.hilti_outside.specs.Contents.{Grows, GrowsByFront};
 ghost use Rattle.hilti_outside.specs.Faults.{Rose};
-ghost use Rattle.hilti_pcap.specs.declared.packet.Packet.{Packet};
 ghost use Rattle.hilti_top.specs.declared.printing.Parameter.{Parameter};
-ghost use Rattle.hilti_top.specs.Inputs.{AreAccepted, AreRefused, IsCaptureOf, IsNoCapture};
-ghost use Rattle.hilti_top.specs.Report.{report};
+ghost use Rattle.hilti_top.specs.Inputs.{AreAccepted, AreRefused, IsNoCapture, Reports};
+ghost use Rattle.hilti_top.specs.Opening.{OpensFor};
 ghost use Rattle.hilti_top.specs.Words.{IsCommand};
 
 use crate::input::{InputFault, read_capture};
@@ -36,21 +35,41 @@ pub fn hilti_call<F: Files, S: Sink>(
     ensures usage { result ≡ Status.Usage → IsCommand words.now → ⊥ }
     ensures command { result ≢ Status.Usage → IsCommand words.now }
 
+    // What is opened.
+    ensures opens { OpensFor result words.now
+        (F.files files.old) (F.opened files.old) (F.opened files.new) }
+
     // What is refused, and why.
-    ensures bad_module { (place : APlace) (code : ℕ) → result ≡ Status.BadModule place code → AreRefused (F.files files.old) words.now place code }
-    ensures bad_capture { (at code : ℕ) → result ≡ Status.BadCapture at code → IsNoCapture (F.files files.old) words.now }
-    ensures bad_capture_at { (at code : ℕ) → result ≡ Status.BadCapture at code → (at ≡ 0) × (code ≡ 60) }
-    ensures module_first { (at code : ℕ) → result ≡ Status.BadCapture at code → (lines : List (List Parameter)) × AreAccepted (F.files files.old) words.now lines }
+    ensures bad_module { (place : APlace) (code : ℕ) →
+        result ≡ Status.BadModule place code →
+        AreRefused (F.files files.old) words.now place code }
+    ensures bad_capture { (at code : ℕ) →
+        result ≡ Status.BadCapture at code →
+        IsNoCapture (F.files files.old) words.now }
+    ensures bad_capture_at { (at code : ℕ) →
+        result ≡ Status.BadCapture at code →
+        (at ≡ 0) × (code ≡ 60) }
+    ensures module_first { (at code : ℕ) →
+        result ≡ Status.BadCapture at code →
+        (lines : List (List Parameter)) × AreAccepted (F.files files.old) words.now lines }
 
     // What is written.
-    ensures done { result ≡ Status.Done → (lines : List (List Parameter)) × (packets : List Packet) × AreAccepted (F.files files.old) words.now lines × IsCaptureOf (F.files files.old) words.now packets × Grows (S.written sink.old) (S.written sink.new) (report lines packets) }
-    ensures write_fault { result ≡ Status.WriteFault → (lines : List (List Parameter)) × (packets : List Packet) × AreAccepted (F.files files.old) words.now lines × IsCaptureOf (F.files files.old) words.now packets × GrowsByFront (S.written sink.old) (S.written sink.new) (report lines packets) }
-    ensures unwritten { result ≢ Status.Done → result ≢ Status.WriteFault → S.written sink.new ≡ S.written sink.old }
+    ensures done { result ≡ Status.Done →
+        Reports (F.files files.old) words.now
+        (Grows (S.written sink.old) (S.written sink.new)) }
+    ensures write_fault { result ≡ Status.WriteFault →
+        Reports (F.files files.old) words.now
+        (GrowsByFront (S.written sink.old) (S.written sink.new)) }
+    ensures unwritten { result ≢ Status.Done →
+        result ≢ Status.WriteFault →
+        S.written sink.new ≡ S.written sink.old }
 
     // Faults of the outside: none comes without its cause, and none goes unheard.
-    ensures read_fault { result ≡ Status.ReadFault → Rose (F.faults files.old) (F.faults files.new) }
+    ensures read_fault { result ≡ Status.ReadFault →
+        Rose (F.faults files.old) (F.faults files.new) }
     ensures reads_heard { result ≢ Status.ReadFault → F.faults files.new ≡ F.faults files.old }
-    ensures write_failed { result ≡ Status.WriteFault → Rose (S.faults sink.old) (S.faults sink.new) }
+    ensures write_failed { result ≡ Status.WriteFault →
+        Rose (S.faults sink.old) (S.faults sink.new) }
     ensures writes_heard { result ≢ Status.WriteFault → S.faults sink.new ≡ S.faults sink.old }
     ensures files { F.files files.new ≡ F.files files.old }
 {

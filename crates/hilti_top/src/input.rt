@@ -1,9 +1,9 @@
 //! The capture of a command, from the name of its file.
-ghost use Rattle.std.specs.Prelude.{◌≡◌, ◌≢◌, ◌≤◌, List, Option, Some, Err, IfOk, length};
-ghost use Rattle.hilti_outside.specs.Contents.{FileMap, content};
+ghost use Rattle.std.specs.Prelude.{◌≡◌, ◌≢◌, ◌≤◌, [], ◌∷◌, Err, IfOk, length};
+ghost use Rattle.hilti_outside.specs.Contents.{Grows, WhereTold, content};
 ghost use Rattle.hilti_outside.specs.Faults.{Rose};
-ghost use Rattle.hilti_pcap.specs.declared.packet.Packet.{Packet};
 ghost use Rattle.hilti_pcap.specs.Capture.{HasPackets};
+ghost use Rattle.hilti_top.specs.Absence.{NoneIs};
 
 use hilti_outside::{FileFault, Files, read_file};
 use hilti_pcap::{LeFault, Packets, read_le};
@@ -57,10 +57,14 @@ pub fn read_capture<F: Files>(
     name: &[u8],
 ) -> Result<Packets, InputFault>
     ensures files { F.files files.new ≡ F.files files.old }
-    ensures packets { IfOk result (λ packets. (all : FileMap) → F.files files.old ≡ Some all → HasPackets (content all name.now) packets) }
+    ensures opened { Grows (F.opened files.old) (F.opened files.new) (name.now ∷ []) }
+    ensures packets { IfOk result (λ packets.
+        WhereTold (F.files files.old) (λ all. HasPackets (content all name.now) packets)) }
     ensures few { IfOk result (λ packets. length packets ≤ 1000000) }
-    ensures not_yet { result ≡ Err InputFault.NotYet → (all : FileMap) → F.files files.old ≡ Some all → (packets : List Packet) → HasPackets (content all name.now) packets → ⊥ }
-    ensures failed { result ≡ Err InputFault.ReadFault → Rose (F.faults files.old) (F.faults files.new) }
+    ensures not_yet { result ≡ Err InputFault.NotYet →
+        WhereTold (F.files files.old) (λ all. NoneIs (HasPackets (content all name.now))) }
+    ensures failed { result ≡ Err InputFault.ReadFault →
+        Rose (F.faults files.old) (F.faults files.new) }
     ensures heard { result ≢ Err InputFault.ReadFault → F.faults files.new ≡ F.faults files.old }
 {
     let capture = read_file(alloc, files, name, CAPTURE_BYTES)?;

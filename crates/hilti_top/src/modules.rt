@@ -1,10 +1,13 @@
 //! The modules of a command, from the names of their files to what they print.
-ghost use Rattle.std.specs.Prelude.{◌≡◌, ◌≢◌, ◌<◌, ◌≤◌, ℕ, List, Option, Some, Err, IfOk, length, map};
+ghost use Rattle.std.specs.Prelude.{◌≡◌, ◌≢◌, ◌<◌, ◌≤◌, ℕ, [], ◌∷◌, Err, IfOk, OnErr, length, map};
 ghost use Rattle.std.specs.List.{AllByRecursion};
 ghost use Rattle.hilti_base.specs.declared.names.Place.{Place as APlace};
-ghost use Rattle.hilti_outside.specs.Contents.{FileMap, content};
+ghost use Rattle.hilti_outside.specs.Contents.{Grows, WhereTold, content};
 ghost use Rattle.hilti_outside.specs.Faults.{Rose};
-ghost use Rattle.hilti_top.specs.ModuleTexts.{AreModules, IsAccepted, IsRefused, IsShort, IsTooLong, IsUnread, start_of};
+ghost use Rattle.hilti_top.specs.ModuleTexts.{AreModules, IsAccepted, IsRefused, IsShort};
+ghost use Rattle.hilti_top.specs.ModuleTexts.{IsTooLong, IsUnread, start_of};
+ghost use Rattle.hilti_top.specs.InputFaults.{WhereRefused};
+ghost use Rattle.hilti_top.specs.Opening.{OpensFront, OpensRefused, OpensUntil};
 ghost use Rattle.hilti_top.specs.Printing.{ArePrintLines};
 
 use crate::printing::{FormFault, PrintLines, printed_by_modules};
@@ -93,11 +96,16 @@ fn read_text<F: Files>(
     name: &[u8],
 ) -> Result<Blob, ModulesFault>
     ensures files { F.files files.new ≡ F.files files.old }
-    ensures text { IfOk result (λ text. (all : FileMap) → F.files files.old ≡ Some all → text ≡ content all name.now) }
+    ensures opened { Grows (F.opened files.old) (F.opened files.new) (name.now ∷ []) }
+    ensures text { IfOk result
+        (λ text. WhereTold (F.files files.old) (λ all. text ≡ content all name.now)) }
     ensures short { IfOk result (λ text. IsShort text) }
-    ensures refused_at { (place : APlace) (code : ℕ) → result ≡ Err (ModulesFault.At place code) → (place ≡ start_of file) × (code ≡ 50) }
-    ensures refused { (place : APlace) (code : ℕ) → result ≡ Err (ModulesFault.At place code) → (all : FileMap) → F.files files.old ≡ Some all → 1048576 < length (content all name.now) }
-    ensures failed { result ≡ Err ModulesFault.ReadFault → Rose (F.faults files.old) (F.faults files.new) }
+    ensures refused_at { WhereRefused result
+        (λ place code. (place ≡ start_of file) × (code ≡ 50)) }
+    ensures refused { WhereRefused result (λ place code.
+        WhereTold (F.files files.old) (λ all. 1048576 < length (content all name.now))) }
+    ensures failed { result ≡ Err ModulesFault.ReadFault →
+        Rose (F.faults files.old) (F.faults files.new) }
     ensures heard { result ≢ Err ModulesFault.ReadFault → F.faults files.new ≡ F.faults files.old }
 {
     match read_file(alloc, files, name, MODULE_BYTES) {
@@ -112,14 +120,24 @@ fn read_text<F: Files>(
 }
 
 /// The texts of the modules in files, up to the first that can't be read or is too long.
+#[tactic(auto, using(crate::proofs::Opened::opens_none, crate::proofs::Opened::opens_more, crate::proofs::Opened::front_at))]
 fn read_texts<F: Files>(alloc: Global, files: &mut F, names: &[Blob]) -> Result<Names, ModulesFault>
     requires { length names.now ≤ 16 }
     ensures files { F.files files.new ≡ F.files files.old }
-    ensures texts { IfOk result (λ texts. (all : FileMap) → F.files files.old ≡ Some all → texts ≡ map (content all) names.now) }
+    ensures opened { IfOk result
+        (λ texts. Grows (F.opened files.old) (F.opened files.new) names.now) }
+    ensures opened_until { WhereRefused result
+        (OpensUntil (F.opened files.old) (F.opened files.new) names.now) }
+    ensures opened_front { OnErr result
+        (OpensFront (F.opened files.old) (F.opened files.new) names.now) }
+    ensures texts { IfOk result
+        (λ texts. WhereTold (F.files files.old) (λ all. texts ≡ map (content all) names.now)) }
     ensures count { IfOk result (λ texts. length texts ≡ length names.now) }
     ensures short { IfOk result (λ texts. AllByRecursion IsShort texts) }
-    ensures refused { (place : APlace) (code : ℕ) → result ≡ Err (ModulesFault.At place code) → (all : FileMap) → F.files files.old ≡ Some all → IsTooLong (map (content all) names.now) place code }
-    ensures failed { result ≡ Err ModulesFault.ReadFault → Rose (F.faults files.old) (F.faults files.new) }
+    ensures refused { WhereRefused result (λ place code.
+        WhereTold (F.files files.old) (λ all. IsTooLong (map (content all) names.now) place code)) }
+    ensures failed { result ≡ Err ModulesFault.ReadFault →
+        Rose (F.faults files.old) (F.faults files.new) }
     ensures heard { result ≢ Err ModulesFault.ReadFault → F.faults files.new ≡ F.faults files.old }
 {
     let mut texts = Names::new(alloc);
@@ -136,7 +154,8 @@ fn read_trees(alloc: Global, texts: &Names) -> Result<Modules, Refusal>
     requires short { AllByRecursion IsShort texts.now }
     ensures modules { IfOk result (λ modules. AreModules texts.now modules) }
     ensures count { IfOk result (λ modules. length modules ≡ length texts.now) }
-    ensures refused { (place : APlace) (code : ℕ) → result ≡ Err (Refusal.At place code) → IsUnread texts.now place code }
+    ensures refused { (place : APlace) (code : ℕ) →
+        result ≡ Err (Refusal.At place code) → IsUnread texts.now place code }
 {
     let mut modules = Modules::new(alloc);
     for text in texts.as_slice() {
@@ -153,15 +172,17 @@ fn printed_by_texts(alloc: Global, texts: &Names) -> Result<PrintLines, Refusal>
     requires short { AllByRecursion IsShort texts.now }
     ensures lines { IfOk result (λ lines. IsAccepted texts.now lines) }
     ensures fit { IfOk result (λ lines. ArePrintLines lines) }
-    ensures refused { (place : APlace) (code : ℕ) → result ≡ Err (Refusal.At place code) → IsRefused texts.now place code }
+    ensures refused { (place : APlace) (code : ℕ) →
+        result ≡ Err (Refusal.At place code) → IsRefused texts.now place code }
 {
     let modules = read_trees(alloc, texts)?;
     let linked = link(alloc, modules)?;
-    Ok(printed_by_modules(alloc, linked.modules.as_slice())?)
+    Ok(printed_by_modules(alloc, linked.modules().as_slice())?)
 }
 
 /// What the modules in files print. The files are read in order, then each text is read, and then all are linked: the
 /// first refusal answers.
+#[tactic(auto, using(crate::proofs::Opened::whole_front))]
 pub fn read_modules<F: Files>(
     alloc: Global,
     files: &mut F,
@@ -170,10 +191,18 @@ pub fn read_modules<F: Files>(
     requires some { 1 ≤ length names.now }
     requires few { length names.now ≤ 16 }
     ensures files { F.files files.new ≡ F.files files.old }
-    ensures lines { IfOk result (λ lines. (all : FileMap) → F.files files.old ≡ Some all → IsAccepted (map (content all) names.now) lines) }
+    ensures opened { IfOk result
+        (λ lines. Grows (F.opened files.old) (F.opened files.new) names.now) }
+    ensures opened_refused { WhereRefused result
+        (OpensRefused (F.files files.old) (F.opened files.old) (F.opened files.new) names.now) }
+    ensures opened_front { OpensFront (F.opened files.old) (F.opened files.new) names.now }
+    ensures lines { IfOk result (λ lines.
+        WhereTold (F.files files.old) (λ all. IsAccepted (map (content all) names.now) lines)) }
     ensures fit { IfOk result (λ lines. ArePrintLines lines) }
-    ensures refused { (place : APlace) (code : ℕ) → result ≡ Err (ModulesFault.At place code) → (all : FileMap) → F.files files.old ≡ Some all → IsRefused (map (content all) names.now) place code }
-    ensures failed { result ≡ Err ModulesFault.ReadFault → Rose (F.faults files.old) (F.faults files.new) }
+    ensures refused { WhereRefused result (λ place code.
+        WhereTold (F.files files.old) (λ all. IsRefused (map (content all) names.now) place code)) }
+    ensures failed { result ≡ Err ModulesFault.ReadFault →
+        Rose (F.faults files.old) (F.faults files.new) }
     ensures heard { result ≢ Err ModulesFault.ReadFault → F.faults files.new ≡ F.faults files.old }
 {
     let texts = read_texts(alloc, files, names)?;

@@ -1,11 +1,15 @@
 //! The one form of modules that runs today: a function `packet` of print lines alone.
-ghost use Rattle.std.specs.Prelude.{◌≡◌, ◌↔◌, ◌<◌, List, IsTrue, IfOk, MatchOption, Err, length};
+ghost use Rattle.std.specs.Prelude.{◌≡◌, ◌↔◌, ◌<◌, List, IsTrue, IfOk, Err, length};
 ghost use Rattle.std.specs.List.{AllZip};
 ghost use Rattle.hilti_top.specs.declared.printing.Parameter.{Parameter as APrinted};
-ghost use Rattle.hilti_top.specs.Printing.{AreOperands, ArePrintLines, ArePrints, IsMain, IsNameOf, IsOperand, IsPacket, IsPacketItem, IsPrint, IsPrintWord, IsReturn, IsReturnWord, Prints, is_bytes as bytes_kind, is_time as time_kind};
+ghost use Rattle.hilti_top.specs.Absence.{Finds, NoneIs};
+ghost use Rattle.hilti_top.specs.Printing.{AreOperands, ArePrintLines, ArePrints, IsMain, IsNameOf};
+ghost use Rattle.hilti_top.specs.Printing.{IsOperand, IsPacket, IsPacketItem, IsPrint, IsPrintWord};
+ghost use Rattle.hilti_top.specs.Printing.{IsReturn, IsReturnWord, Prints, is_bytes as bytes_kind};
+ghost use Rattle.hilti_top.specs.Printing.{is_time as time_kind};
 
 use hilti_base::{Collection, NoMemory};
-use hilti_syntax::{
+use hilti_module::{
     Body, InnerText, Item, Line, Mnemonic, Module, Operand, Parametric, PlainInner, PlainType,
     Simple, TypeText, Word,
 };
@@ -53,7 +57,7 @@ const FUEL: usize = 1_000_000;
 
 /// The parameter that a word names.
 fn parameter_named(time: &[u8], bytes: &[u8], word: &[u8]) -> Option<Parameter>
-    ensures { MatchOption result ((printed : APrinted) → IsNameOf time.now bytes.now word.now printed → ⊥) (λ printed. IsNameOf time.now bytes.now word.now printed) }
+    ensures { Finds result (IsNameOf time.now bytes.now word.now) }
 {
     if word == time {
         return Some(Parameter::Time);
@@ -66,7 +70,7 @@ fn parameter_named(time: &[u8], bytes: &[u8], word: &[u8]) -> Option<Parameter>
 
 /// The parameter that an operand names alone.
 fn parameter_of(time: &[u8], bytes: &[u8], operand: &Operand) -> Option<Parameter>
-    ensures { MatchOption result ((printed : APrinted) → IsOperand time.now bytes.now operand.now printed → ⊥) (λ printed. IsOperand time.now bytes.now operand.now printed) }
+    ensures { Finds result (IsOperand time.now bytes.now operand.now) }
 {
     match operand {
         Operand::Simple(Simple::Name(name)) if name.second.is_none() => {
@@ -83,8 +87,10 @@ fn parameters_of(
     bytes: &[u8],
     operands: &[Operand],
 ) -> Result<Operands, FormFault>
-    ensures printed { IfOk result (λ printed. AllZip (IsOperand time.now bytes.now) operands.now printed) }
-    ensures not_yet { result ≡ Err FormFault.NotYet → (printed : List APrinted) → AllZip (IsOperand time.now bytes.now) operands.now printed → ⊥ }
+    ensures printed { IfOk result
+        (λ printed. AllZip (IsOperand time.now bytes.now) operands.now printed) }
+    ensures not_yet { result ≡ Err FormFault.NotYet →
+        NoneIs (AllZip (IsOperand time.now bytes.now) operands.now) }
 {
     let mut printed = Operands::new(alloc);
     for operand in operands {
@@ -96,12 +102,14 @@ fn parameters_of(
     Ok(printed)
 }
 
+/// Whether a mnemonic is `print`.
 fn is_print_word(mnemonic: &Mnemonic) -> bool
     ensures { IsTrue result ↔ IsPrintWord mnemonic.now }
 {
     mnemonic.first.bytes.bytes() == b"print".as_slice() && mnemonic.second.is_none()
 }
 
+/// Whether a mnemonic is `return.void`.
 fn is_return_word(mnemonic: &Mnemonic) -> bool
     ensures { IsTrue result ↔ IsReturnWord mnemonic.now }
 {
@@ -117,7 +125,7 @@ fn is_return_word(mnemonic: &Mnemonic) -> bool
 /// What a print line prints.
 fn print_line(alloc: Global, time: &[u8], bytes: &[u8], line: &Line) -> Result<Operands, FormFault>
     ensures printed { IfOk result (λ printed. IsPrint time.now bytes.now line.now printed) }
-    ensures not_yet { result ≡ Err FormFault.NotYet → (printed : List APrinted) → IsPrint time.now bytes.now line.now printed → ⊥ }
+    ensures not_yet { result ≡ Err FormFault.NotYet → NoneIs (IsPrint time.now bytes.now line.now) }
 {
     let Line::Instruction {
         target,
@@ -160,8 +168,10 @@ fn print_lines(
     bytes: &[u8],
     lines: &[Line],
 ) -> Result<PrintLines, FormFault>
-    ensures printed { IfOk result (λ printed. AllZip (IsPrint time.now bytes.now) lines.now printed) }
-    ensures not_yet { result ≡ Err FormFault.NotYet → (printed : List (List APrinted)) → AllZip (IsPrint time.now bytes.now) lines.now printed → ⊥ }
+    ensures printed { IfOk result
+        (λ printed. AllZip (IsPrint time.now bytes.now) lines.now printed) }
+    ensures not_yet { result ≡ Err FormFault.NotYet →
+        NoneIs (AllZip (IsPrint time.now bytes.now) lines.now) }
 {
     let mut printed = PrintLines::new(alloc);
     for line in lines {
@@ -178,7 +188,8 @@ fn printed_by(
     lines: &[Line],
 ) -> Result<PrintLines, FormFault>
     ensures printed { IfOk result (λ printed. ArePrints time.now bytes.now lines.now printed) }
-    ensures not_yet { result ≡ Err FormFault.NotYet → (printed : List (List APrinted)) → ArePrints time.now bytes.now lines.now printed → ⊥ }
+    ensures not_yet { result ≡ Err FormFault.NotYet →
+        NoneIs (ArePrints time.now bytes.now lines.now) }
 {
     let [prints @ .., last] = lines else {
         return Err(FormFault::NotYet);
@@ -192,6 +203,7 @@ fn printed_by(
     print_lines(alloc, time, bytes, prints)
 }
 
+/// Whether a type is `time`.
 fn is_time(kind: &TypeText) -> bool
     ensures { result ≡ time_kind kind.now }
 {
@@ -201,6 +213,7 @@ fn is_time(kind: &TypeText) -> bool
     }
 }
 
+/// Whether a type is `bytes`, which may be written `ref<bytes>` too.
 fn is_bytes(kind: &TypeText) -> bool
     ensures { result ≡ bytes_kind kind.now }
 {
@@ -220,12 +233,14 @@ fn is_bytes(kind: &TypeText) -> bool
 fn printed_by_packet(
     alloc: Global,
     name: &Word,
-    time: &hilti_syntax::Parameter,
-    bytes: &hilti_syntax::Parameter,
+    time: &hilti_module::Parameter,
+    bytes: &hilti_module::Parameter,
     body: &Body,
 ) -> Result<PrintLines, FormFault>
-    ensures printed { IfOk result (λ printed. IsPacket name.now time.now bytes.now body.now printed) }
-    ensures not_yet { result ≡ Err FormFault.NotYet → (printed : List (List APrinted)) → IsPacket name.now time.now bytes.now body.now printed → ⊥ }
+    ensures printed { IfOk result
+        (λ printed. IsPacket name.now time.now bytes.now body.now printed) }
+    ensures not_yet { result ≡ Err FormFault.NotYet →
+        NoneIs (IsPacket name.now time.now bytes.now body.now) }
 {
     if name.bytes.bytes() != b"packet".as_slice() || !body.locals.is_empty() {
         return Err(FormFault::NotYet);
@@ -241,7 +256,7 @@ fn printed_by_packet(
 /// What the one item of a module prints.
 fn printed_by_item(alloc: Global, item: &Item) -> Result<PrintLines, FormFault>
     ensures printed { IfOk result (λ printed. IsPacketItem item.now printed) }
-    ensures not_yet { result ≡ Err FormFault.NotYet → (printed : List (List APrinted)) → IsPacketItem item.now printed → ⊥ }
+    ensures not_yet { result ≡ Err FormFault.NotYet → NoneIs (IsPacketItem item.now) }
 {
     let Item::Function {
         result,
@@ -264,7 +279,7 @@ fn printed_by_item(alloc: Global, item: &Item) -> Result<PrintLines, FormFault>
 /// What a module prints.
 fn printed_by_main(alloc: Global, main: &Module) -> Result<PrintLines, FormFault>
     ensures printed { IfOk result (λ printed. IsMain main.now printed) }
-    ensures not_yet { result ≡ Err FormFault.NotYet → (printed : List (List APrinted)) → IsMain main.now printed → ⊥ }
+    ensures not_yet { result ≡ Err FormFault.NotYet → NoneIs (IsMain main.now) }
 {
     let [item] = main.items.as_slice() else {
         return Err(FormFault::NotYet);
@@ -279,7 +294,7 @@ fn printed_by_main(alloc: Global, main: &Module) -> Result<PrintLines, FormFault
 pub fn printed_by_modules(alloc: Global, modules: &[Module]) -> Result<PrintLines, FormFault>
     ensures printed { IfOk result (λ printed. Prints modules.now printed) }
     ensures fit { IfOk result (λ printed. ArePrintLines printed) }
-    ensures not_yet { result ≡ Err FormFault.NotYet → (printed : List (List APrinted)) → Prints modules.now printed → ⊥ }
+    ensures not_yet { result ≡ Err FormFault.NotYet → NoneIs (Prints modules.now) }
 {
     let [main] = modules else {
         return Err(FormFault::NotYet);

@@ -28,6 +28,7 @@ fn slot(parameter: Parameter) -> Operand
     }
 }
 
+/// The slots of parameters.
 fn slots(alloc: Global, parameters: &[Parameter]) -> Result<Operands, NoMemory>
     ensures { IfOk result (λ operands. operands ≡ map slot_of parameters.now) }
 {
@@ -84,6 +85,7 @@ fn function(alloc: Global, lines: &PrintLines) -> Result<Function, NoMemory>
     })
 }
 
+/// The parts of the program of a module of print lines.
 #[tactic(auto, unfolding(crate::specs::Program::parts_of))]
 fn parts(alloc: Global, lines: &PrintLines) -> Result<Parts, NoMemory>
     ensures { IfOk result (λ parts. parts ≡ parts_of lines.now) }

@@ -56,6 +56,7 @@ fn append_item(out: &mut Blob, item: &Item) -> Result<(), NoMemory>
     }
 }
 
+/// The printed lines of items, behind two spaces each.
 fn append_items(out: &mut Blob, items: &Items) -> Result<(), NoMemory>
     ensures { OnOk result (out.new ≡ out.old ++ flat_map item_line items.now) }
 {
@@ -74,8 +75,11 @@ fn append_call(
     packet: &Packet,
 ) -> Result<(), NoMemory>
     requires { IsIdle (runs machine.now vt.old) }
-    ensures lines { (lines : List (List Parameter)) → IsMachineOf machine.now lines → OnOk result (out.new ≡ out.old ++ call_lines lines packet.now) }
-    ensures finished { (lines : List (List Parameter)) → IsMachineOf machine.now lines → OnOk result (Finishes (runs machine.now vt.old) (packet_call packet.now) (runs machine.now vt.new)) }
+    ensures lines { (lines : List (List Parameter)) → IsMachineOf machine.now lines →
+        OnOk result (out.new ≡ out.old ++ call_lines lines packet.now) }
+    ensures finished { (lines : List (List Parameter)) → IsMachineOf machine.now lines →
+        OnOk result
+        (Finishes (runs machine.now vt.old) (packet_call packet.now) (runs machine.now vt.new)) }
 {
     machine.start(vt, call_for(alloc, packet)?)?;
     let segment = machine.segment(vt)?;

@@ -58,6 +58,7 @@ impl Status {
     }
 }
 
+/// The text of a refused module.
 fn bad_module_text(alloc: Global, place: &Place, code: u32) -> Result<Blob, NoMemory>
     ensures { IfOk result (λ text. text ≡ text_of (Status.BadModule place.now code)) }
 {
@@ -71,6 +72,7 @@ fn bad_module_text(alloc: Global, place: &Place, code: u32) -> Result<Blob, NoMe
     Ok(out)
 }
 
+/// The text of a refused capture.
 fn bad_capture_text(alloc: Global, at: u64, code: u32) -> Result<Blob, NoMemory>
     ensures { IfOk result (λ text. text ≡ text_of (Status.BadCapture at code)) }
 {

@@ -33,7 +33,8 @@ module _ {V E A : Type 0} where
 
   -- the pass has a ticket, whose number this is modulo 2^64
   abbrev pub IsWaiting : ℕ → Pass V E A → Type 0
-  IsWaiting ticket p = (p.seat.me.0.stage ≡ Waiting) × (p.seat.me.0.ticket % 2 ^ 64 ≡ ticket) × (p.seat.me.1 ≡ [])
+  IsWaiting ticket p =
+      (p.seat.me.0.stage ≡ Waiting) × (p.seat.me.0.ticket % 2 ^ 64 ≡ ticket) × (p.seat.me.1 ≡ [])
 
   -- the slot lies with the pass, and has this value
   abbrev pub HasSlot : V → Pass V E A → Type 0

@@ -15,11 +15,13 @@ module _ {V E A : Type 0} where
 
   -- the passes of a new turn stand by number
   abbrev pub AreFresh : Turn V E A → A → List (Pass V E A) → Type 0
-  AreFresh turn topic passes = (k : ℕ) (p : Pass V E A) → slice_get passes k ≡ Some p → (number p ≡ k) × IsPassOf turn p × IsFresh topic p
+  AreFresh turn topic passes = (k : ℕ) (p : Pass V E A) → slice_get passes k ≡ Some p
+      → (number p ≡ k) × IsPassOf turn p × IsFresh topic p
 
   -- the same from the number `from` on
   abbrev pub AreFreshFrom : ℕ → Turn V E A → A → List (Pass V E A) → Type 0
-  AreFreshFrom from turn topic passes = (k : ℕ) (p : Pass V E A) → slice_get passes k ≡ Some p → (number p ≡ from + k) × IsPassOf turn p × IsFresh topic p
+  AreFreshFrom from turn topic passes = (k : ℕ) (p : Pass V E A) → slice_get passes k ≡ Some p
+      → (number p ≡ from + k) × IsPassOf turn p × IsFresh topic p
 
   -- some pass of the list has this number
   abbrev pub HasNumber : List (Pass V E A) → ℕ → Type 0

@@ -1,5 +1,6 @@
 //! What each step on the table tells its seat.
-ghost use Rattle.hilti_turn.specs.Rule.{claimed, looked, counted, released, one_more, newcomer, joined, spent};
+ghost use Rattle.hilti_turn.specs.Rule.{claimed, looked, counted, released, one_more, newcomer};
+ghost use Rattle.hilti_turn.specs.Rule.{joined, spent};
 
 use crate::journalled::Journalled;
 use crate::view::View;

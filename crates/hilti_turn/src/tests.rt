@@ -1,4 +1,5 @@
-ghost use Rattle.std.specs.Prelude.{◌≡◌, ℕ, ◌<◌, ◌≤◌, ◌++◌, ◌∷◌, [], OnOk, OnErr, IfOk, All, vec_len, slice_index_or};
+ghost use Rattle.std.specs.Prelude.{◌≡◌, ℕ, ◌<◌, ◌≤◌, ◌++◌, ◌∷◌, [], OnOk, OnErr, IfOk, All};
+ghost use Rattle.std.specs.Prelude.{vec_len, slice_index_or};
 ghost use Rattle.hilti_turn.specs.Passes.{number, IsOutside};
 ghost use Rattle.hilti_turn.specs.Turns.{IsPassOf};
 
@@ -42,7 +43,8 @@ impl Journalled for Diary {
 
 impl Diary {
     fn note(&mut self, pass: u32, number: u64) -> Result<(), AllocError>
-        ensures ok { OnOk result (self.new.deeds.items ≡ self.old.deeds.items ++ record { pass = pass; number = number } ∷ []) }
+        ensures ok { OnOk result (self.new.deeds.items
+            ≡ self.old.deeds.items ++ record { pass = pass; number = number } ∷ []) }
         ensures err { OnErr result (self.new.deeds.items ≡ self.old.deeds.items) }
         ensures owner { self.new.owner ≡ self.old.owner }
     {
@@ -75,14 +77,16 @@ fn run<R: Threads + Wait + Sync>(
     requires { All (λ p. IsPassOf turn.now p × IsOutside p) passes.items }
     ensures len { IfOk result (λ v. vec_len v ≡ vec_len passes) }
     ensures own { IfOk result (λ v. All (λ p. IsPassOf turn.now p × IsOutside p) v.items) }
-    ensures numbers { IfOk result (λ v. (k : ℕ) (d : _) → k < vec_len passes → number (slice_index_or v.items k d) ≡ number (slice_index_or passes.items k d)) }
+    ensures numbers { IfOk result (λ v. (k : ℕ) (d : _) → k < vec_len passes
+        → number (slice_index_or v.items k d) ≡ number (slice_index_or passes.items k d)) }
 {
     thread::map_vec(
         rt,
         passes,
         &|pass: Pass<Diary>| -> Pass<Diary>
             requires { IsPassOf turn.now pass × IsOutside pass }
-            ensures { IsPassOf turn.entry.now result × IsOutside result × (number result ≡ number pass) }
+            ensures { IsPassOf turn.entry.now result × IsOutside result
+                × (number result ≡ number pass) }
         { take_turns(rt, turn, pass, turns) },
     )
 }

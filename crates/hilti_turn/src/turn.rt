@@ -41,11 +41,13 @@ pub struct Turn<V: Journalled + Drop> {
 }
 
 impl<V: Journalled + Drop + Send> Turn<V> {
-    ghost use Rattle.std.specs.Prelude.{◌≡◌, ◌<◌, ◌≤◌, ℕ, ◌+◌, ◌%◌, ◌^◌, [], ◌∷◌, ◌++◌, length, drop, IfOk, vec_len, Some, None, All, ◌≢◌};
+    ghost use Rattle.std.specs.Prelude.{◌≡◌, ◌<◌, ◌≤◌, ℕ, ◌+◌, ◌%◌, ◌^◌, [], ◌∷◌, ◌++◌, length};
+    ghost use Rattle.std.specs.Prelude.{drop, IfOk, vec_len, Some, None, All, ◌≢◌};
     ghost use mathlib.Core.List.{IsPrefix};
     ghost use Rattle.hilti_turn.specs.Journal.{made_by, GoesOnBy};
     ghost use Rattle.hilti_turn.specs.Rule.{ComesIn, Tells, told_of, one_more, joined};
-    ghost use Rattle.hilti_turn.specs.Passes.{number, about, seen, mine, visits, IsOutside, IsInside, IsWaiting, HasSlot, IsFresh, IsSamePass};
+    ghost use Rattle.hilti_turn.specs.Passes.{number, about, seen, mine, visits, IsOutside};
+    ghost use Rattle.hilti_turn.specs.Passes.{IsInside, IsWaiting, HasSlot, IsFresh, IsSamePass};
     ghost use Rattle.hilti_turn.specs.Turns.{seat_count, IsPassOf, AreFresh, AreAll, HasNumber};
 
     /// A turn with a value that has no entries yet, and its passes, which are numbered from 0 and stand in this order.
@@ -98,7 +100,8 @@ impl<V: Journalled + Drop + Send> Turn<V> {
         ensures outside { IsOutside pass.new }
 
         ensures seen { seen pass.new ≡ V.entries value }
-        ensures mine { mine pass.new ≡ mine pass.old ++ drop (length (seen pass.old)) (V.entries value) }
+        ensures mine { mine pass.new
+            ≡ mine pass.old ++ drop (length (seen pass.old)) (V.entries value) }
         ensures visits { visits pass.new ≡ visits pass.old }
     {
         let count = value.count();
@@ -118,7 +121,8 @@ impl<V: Journalled + Drop + Send> Turn<V> {
         requires own { All (λ p. IsPassOf self p × IsOutside p) passes.items }
         requires all { AreAll self passes.items }
         ensures begins { All (λ p. IsPrefix (seen p) (V.entries result)) passes.items }
-        ensures own_entries { All (λ p. made_by V.maker (number p) (V.entries result) ≡ mine p) passes.items }
+        ensures own_entries { All (λ p. made_by V.maker (number p) (V.entries result)
+            ≡ mine p) passes.items }
         ensures no_others { All (λ e. HasNumber passes.items (V.maker e)) (V.entries result) }
         ensures about { All (λ p. about p ≡ Some (V.about result)) passes.items }
     {
@@ -136,7 +140,8 @@ impl<V: Journalled + Drop + Send> Turn<V> {
         requires seats { (1 ≤ seats) × (seats ≤ 65) }
         requires empty { V.entries value ≡ [] }
         ensures turn { IfOk result (λ r. seat_count r.0 ≡ seats) }
-        ensures pass { IfOk result (λ r. (number r.1 ≡ 0) × IsPassOf r.0 r.1 × IsFresh (V.about value) r.1 × (r.1.seat.me.0.made ≡ 1)) }
+        ensures pass { IfOk result (λ r. (number r.1 ≡ 0) × IsPassOf r.0 r.1
+            × IsFresh (V.about value) r.1 × (r.1.seat.me.0.made ≡ 1)) }
     {
         let opening = Opening {
             value: Snapshot::of(&value),
@@ -156,7 +161,8 @@ impl<V: Journalled + Drop + Send> Turn<V> {
         requires own { IsPassOf self.now first.old × (number first.old ≡ 0) }
         requires outside { IsOutside first.old }
         requires place { (first.old.seat.me.0.made ≡ place) × (place < seat_count self.now) }
-        ensures first { IsSamePass first.old first.new × (first.new.seat.me.0 ≡ one_more first.old.seat.me.0) × IsOutside first.new }
+        ensures first { IsSamePass first.old first.new
+            × (first.new.seat.me.0 ≡ one_more first.old.seat.me.0) × IsOutside first.new }
         ensures pass { (number result ≡ place) × IsPassOf self.now result }
         ensures fresh { (topic : V.About) → IsFresh topic first.old → IsFresh topic result }
     {
@@ -173,7 +179,8 @@ impl<V: Journalled + Drop + Send> Turn<V> {
         requires outside { IsOutside pass.old }
         ensures same { IsSamePass pass.old pass.new }
         ensures waits { IsWaiting result pass.new }
-        ensures kept { (seen pass.new ≡ seen pass.old) × (mine pass.new ≡ mine pass.old) × (visits pass.new ≡ visits pass.old) }
+        ensures kept { (seen pass.new ≡ seen pass.old) × (mine pass.new ≡ mine pass.old)
+            × (visits pass.new ≡ visits pass.old) }
     {
         self.table
             .shared
@@ -185,7 +192,8 @@ impl<V: Journalled + Drop + Send> Turn<V> {
         requires own { IsPassOf self.now pass.old }
         requires waits { IsWaiting ticket pass.old }
         ensures same { IsSamePass pass.old pass.new }
-        ensures own { result ≡ ticket → ComesIn V.entries V.maker V.about pass.old.seat.me pass.new.seat.me }
+        ensures own { result ≡ ticket
+            → ComesIn V.entries V.maker V.about pass.old.seat.me pass.new.seat.me }
         ensures other { result ≢ ticket → pass.new.seat.me ≡ pass.old.seat.me }
     {
         self.table.shared.load::<Look<V>>(&mut pass.seat, SERVED)
@@ -261,7 +269,8 @@ impl<V: Journalled + Drop + Send> Turn<V> {
         requires own { IsPassOf self.now pass.old × IsPassOf self.now other }
         requires outside { IsOutside pass.old × IsOutside other }
         ensures same { IsSamePass pass.old pass.new }
-        ensures joined { (pass.new.seat.me.0 ≡ joined pass.old.seat.me.0 other.seat.me.0) × IsOutside pass.new }
+        ensures joined { (pass.new.seat.me.0 ≡ joined pass.old.seat.me.0 other.seat.me.0)
+            × IsOutside pass.new }
     {
         let Pass { seat, number: _ } = other;
         self.table

@@ -1,15 +1,10 @@
 -- The greatest of the depths of some parts, found one after another.
-use Rattle.std.proofs.Common.{◌≡◌, sym, ◌∙◌, ap, ℕ, zero, suc, ◌+◌, ◌<◌, ◌≤◌, max, List, [], ◌∷◌, length, map, take, get_or, Some, arith}
-use Rattle.std.specs.List.{fold, slice_get}
-use Rattle.std.specs.Option.{unwrap_or}
+use Rattle.std.proofs.Common.{◌≡◌, sym, ◌∙◌, ap, ℕ, zero, suc, ◌+◌, ◌<◌, ◌≤◌, max, List, [], ◌∷◌, length, map, take, get_or, arith}
+use Rattle.std.specs.List.{fold}
 use Rattle.std.proofs.lemmas.List.{take_all}
 use Rattle.std.proofs.lemmas.List.Folds.{fold-map}
 use Rattle.std.proofs.lemmas.List.Sums.{fold_more}
-use Rattle.hilti_types.specs.Depths.{greatest, depth_over, depths, declared_depth}
-use Rattle.hilti_types.specs.declared.declared.Declared.{Declared}
-use Rattle.hilti_types.specs.declared.declared.Declared.TheVariants.{Struct}
-use Rattle.hilti_types.specs.declared.declared.Member.{Member}
-use Rattle.hilti_types.proofs.InTurn.{told_at}
+use Rattle.hilti_types.specs.Depths.{greatest}
 
 module _ {X : Type 0} (depth : X → ℕ) where
   abbrev pub deepest_of : List X → ℕ
@@ -45,10 +40,3 @@ module _ {X : Type 0} (depth : X → ℕ) where
   pub deepest_at_end : (all items : List X) (at : ℕ) → items ≡ all → length items ≤ at
       → deepest_of (take at items) ≡ deepest_of all
   deepest_at_end all items at same past = ap deepest_of (take_all at items past ∙ same)
-
--- the depth of a struct of the table, by the depths of its fields over the types declared before it
-pub struct_depth : (types : List Declared) (at : ℕ) (name : List ℕ) (fields : List Member)
-    → slice_get types at ≡ Some (Struct name fields)
-    → unwrap_or (slice_get (depths types) at) 1
-    ≡ 1 + greatest (map (λ field. depth_over (depths (take at types)) field.kind) fields)
-struct_depth types at name fields is = ap (λ told. unwrap_or told 1) (told_at declared_depth types at (Struct name fields) is)

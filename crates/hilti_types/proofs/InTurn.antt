@@ -1,18 +1,12 @@
 -- What is told in turn of declared types, at a place of the table.
-use Rattle.std.proofs.Common.{◌≡◌, sym, ◌∙◌, ap, refl, ℕ, zero, suc, ◌+◌, ◌<◌, ◌≤◌, List, [], ◌∷◌, ◌++◌, length, take, get_or, Some, None, arith}
+use Rattle.std.proofs.Common.{◌≡◌, sym, ◌∙◌, ap, refl, ℕ, zero, suc, ◌+◌, ◌<◌, List, [], ◌∷◌, ◌++◌, length, take, get_or, Some, arith}
 use Rattle.std.specs.List.{slice_get}
-use Rattle.std.proofs.lemmas.Option.{slice_get_past, slice_get_within, slice_get-get_or}
+use Rattle.std.proofs.lemmas.Option.{slice_get_within, slice_get-get_or}
 use Rattle.std.proofs.lemmas.List.{length-append}
 use Rattle.std.proofs.lemmas.List.{get_or_append_left}
 use Rattle.std.proofs.Math.Seq.{get_or-append_seam}
 use Rattle.hilti_types.specs.InTurn.{told_after, told_in_turn}
 use Rattle.hilti_types.specs.declared.declared.Declared.{Declared}
-
--- the type that a reading of the table found
-pub read_at : (types : List Declared) (at : ℕ) (there declared : Declared) → at < length types
-    → ((other : Declared) → there ≡ get_or types at other) → there ≡ declared → slice_get types at ≡ Some declared
-read_at types at there declared within read is =
-    slice_get-get_or types at declared within ∙ ap Some (sym (read declared) ∙ is)
 
 module _ {A : Type 0} (judge : List A → Declared → A) where
   -- one is told of each declared type
@@ -64,6 +58,20 @@ module _ {A : Type 0} (judge : List A → Declared → A) where
       slice_get-get_or told at other within
       ∙ ap Some (ap (λ at. get_or told at other) (sym place) ∙ told_at_place [] types at declared other is)
 
-  -- nothing is told past the end
-  pub told_past : (types : List Declared) (at : ℕ) → length types ≤ at → slice_get (told_in_turn judge types) at ≡ None
-  told_past types at past = slice_get_past (told_in_turn judge types) at (omega (arith, length_told_after [] types))
+  -- nothing is told of no type
+  pub none_told : told_in_turn judge [] ≡ []
+  unfolding told_after
+  none_told = refl
+
+  told_after_one_more : (known : List A) (types : List Declared) (item : Declared)
+      → told_after judge known (types ++ item ∷ [])
+      ≡ told_after judge known types ++ judge (told_after judge known types) item ∷ []
+  unfolding told_after
+  told_after_one_more known [] item = refl
+  told_after_one_more known (next ∷ more) item = told_after_one_more (known ++ judge known next ∷ []) more item
+
+  -- what is told of one type more is told over what is told of those before
+  pub told_one_more : (types : List Declared) (item : Declared)
+      → told_in_turn judge (types ++ item ∷ [])
+      ≡ told_in_turn judge types ++ judge (told_in_turn judge types) item ∷ []
+  told_one_more types item = told_after_one_more [] types item

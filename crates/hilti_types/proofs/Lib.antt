@@ -1,4 +1,4 @@
 pub mod Deepest
 pub mod InTurn
+pub mod Keeping
 pub mod Parts
-pub mod Weights

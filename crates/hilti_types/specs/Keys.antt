@@ -12,7 +12,8 @@ abbrev pub is_enum : Option Declared → Bool
 is_enum (Some (Declared.Enum name words)) = true
 is_enum _ = false
 
--- a type whose values have an order and a hash: a scalar, an enum, and a tuple of nothing but key types
+-- a type whose values have an order and a hash: a scalar, an enum, and a tuple of nothing but key
+-- types
 abbrev pub key_step : List Declared → ValueType-F Bool Bool → Bool
 key_step types (ValueType-F.Enum n) = is_enum (slice_get types n)
 key_step types (ValueType-F.Tuple parts) = list_all (λ is_key. is_key) parts

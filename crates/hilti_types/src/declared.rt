@@ -1,9 +1,6 @@
 use crate::value_type::ValueType;
 use hilti_base::{Blob, Collection, Names};
 
-/// The declared types in textual order. Each `n` in a type is a place in it.
-pub type TypeTable = Collection<Declared>;
-
 /// The fields of a struct.
 pub type Members = Collection<Member>;
 

@@ -3,7 +3,8 @@ ghost use Rattle.std.specs.Prelude.{◌≡◌, ◌↔◌, IsTrue, map};
 ghost use Rattle.std.specs.List.{list_all};
 ghost use Rattle.hilti_types.specs.Keys.{IsKey, key_over};
 
-use crate::declared::{Declared, TypeTable};
+use crate::declared::Declared;
+use crate::table::TypeTable;
 use crate::value_type::{ValueType, ValueTypes};
 
 /// Whether a type is a key type: its values have an order and a hash, and may be the keys of a map, the elements of a

@@ -5,16 +5,19 @@ mod declared;
 mod depths;
 mod equality;
 mod keys;
+pub mod laws;
 mod op;
 mod sendability;
+mod table;
 #[cfg(test)]
 mod tests;
 mod value_type;
 
-pub use declared::{Declared, Member, Members, OverlayField, OverlayFields, TypeTable};
+pub use declared::{Declared, Member, Members, OverlayField, OverlayFields};
 pub use depths::depth;
 pub use equality::same;
 pub use keys::is_key;
 pub use op::Op;
 pub use sendability::is_sendable;
+pub use table::TypeTable;
 pub use value_type::{Inner, ValueType, ValueTypes};

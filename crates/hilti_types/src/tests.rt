@@ -168,3 +168,58 @@ fn depths_count_levels(rt: HostRuntime) -> Result<(), Fail> {
     );
     Ok(())
 }
+
+fn field(alloc: Global, kind: ValueType) -> Result<Member, NoMemory> {
+    let name = Blob::of(alloc, b"field")?;
+    Ok(Member { name, kind })
+}
+
+/// Fields of references to a struct.
+fn references(alloc: Global, n: u32, count: u32) -> Result<Members, NoMemory> {
+    let mut fields = Members::new(alloc);
+    for _ in 0..count {
+        fields.push(field(alloc, reference(Inner::Struct { n }))?)?;
+    }
+    Ok(fields)
+}
+
+fn add_struct(types: &mut TypeTable, alloc: Global, fields: Members) -> Result<(), NoMemory> {
+    let name = Blob::of(alloc, b"S")?;
+    types.push(Declared::Struct { name, fields })
+}
+
+/// A struct with one field, and 15 more, each with ten fields of the one before.
+fn tenfold(alloc: Global, first: ValueType) -> Result<TypeTable, NoMemory> {
+    let mut types = TypeTable::new(alloc);
+    let mut fields = Members::new(alloc);
+    fields.push(field(alloc, first)?)?;
+    add_struct(&mut types, alloc, fields)?;
+    for before in 0..15 {
+        add_struct(&mut types, alloc, references(alloc, before, 10)?)?;
+    }
+    Ok(types)
+}
+
+#[test]
+fn structs_are_judged_once(rt: HostRuntime) -> Result<(), Fail> {
+    let types = tenfold(rt.alloc(), ValueType::Port)?;
+    let last = reference(Inner::Struct { n: 15 });
+    assert!(rt; is_sendable(&types, &last));
+    assert_eq!(rt; depth(&types, &last), 17);
+    let types = tenfold(rt.alloc(), ValueType::Callable)?;
+    assert!(rt; !is_sendable(&types, &last));
+    Ok(())
+}
+
+#[test]
+fn a_table_is_a_list(rt: HostRuntime) -> Result<(), Fail> {
+    let types = tenfold(rt.alloc(), ValueType::Port)?;
+    assert!(rt; types.is_sendable_at(15));
+    assert_eq!(rt; types.depth_at(15), 17);
+    assert!(rt; !types.is_empty());
+    assert_eq!(rt; types.len(), 16);
+    assert!(rt; types.get(16).is_none());
+    assert_eq!(rt; types.as_slice().len(), 16);
+    assert_eq!(rt; types.into_vec().len(), 16);
+    Ok(())
+}

@@ -2,6 +2,9 @@ use Rattle.std.proofs.Common.{arith, refl}
 use Rattle.hilti_addr.proofs.Forms.{an_address, no_first, no_fourth, no_second, no_third}
 use Rattle.hilti_addr.proofs.text.read_addr.Goals as goal
 
+pub returns-in_err-first-clause-none : goal.returns-in_err-first-clause-none
+returns-in_err-first-clause-none c = λ _. no_first c.args.text.now (c.in_err-first.ensures.none refl)
+
 pub returns-in_err-second-clause-none : goal.returns-in_err-second-clause-none
 returns-in_err-second-clause-none c = λ _. no_second c.args.text.now c.in_ok-first.rest.now c.in_ok-first.first c.in_ok-first.ensures.some (c.in_err-second.ensures.none refl)
 

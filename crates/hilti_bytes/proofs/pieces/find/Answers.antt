@@ -1,5 +1,4 @@
 use Rattle.std.proofs.Common.{arith}
-use Rattle.memchr.specs.Find.{OccursAt}
 use Rattle.hilti_bytes.proofs.pieces.find.Goals as goal
 
 pub returns-in-Some-clause-least : goal.returns-in-Some-clause-least

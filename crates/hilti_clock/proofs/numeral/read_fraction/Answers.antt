@@ -1,12 +1,15 @@
 use Rattle.std.proofs.Common.{arith}
-use Rattle.hilti_clock.proofs.Digits.{below_second, below_word}
+use Rattle.hilti_clock.proofs.Fractions.{below_second, below_word}
 use Rattle.hilti_clock.proofs.numeral.read_fraction.Goals as goal
 
-pub returns-in_default-clause-value : goal.returns-in_default-clause-value
-returns-in_default-clause-value c = λ is. c.in_default.ensures (is.0, below_word c.args.text.now is.0.1 is.1)
+pub returns-in_default-clause-none : goal.returns-in_default-clause-none
+returns-in_default-clause-none c = λ _ nanos is.
+    c.in_default.ensures (record { digits = is.digits; small = below_word c.args.text.now is.digits.1 is.short })
 
-pub returns-clause-small : goal.returns-clause-small
-returns-clause-small c = below_second c.args.text.now c.in-Some.value c.pow.result c.in-Some.ensures.0.0.1 (omega arith) c.in-Some.ensures.1 c.pow.ensures
+pub overflow_mul-nanos : goal.overflow_mul-nanos
+overflow_mul-nanos c =
+    omega (arith, below_second c.args.text.now c.in-Some.value c.pow.result c.in-Some.ensures.0.digits.1 (omega arith) c.in-Some.ensures.1 c.pow.ensures)
 
-pub overflow_mul-result : goal.overflow_mul-result
-overflow_mul-result c = omega (arith, below_second c.args.text.now c.in-Some.value c.pow.result c.in-Some.ensures.0.0.1 (omega arith) c.in-Some.ensures.1 c.pow.ensures)
+pub overflow_cast-result : goal.overflow_cast-result
+overflow_cast-result c =
+    omega (arith, below_second c.args.text.now c.in-Some.value c.pow.result c.in-Some.ensures.0.digits.1 (omega arith) c.in-Some.ensures.1 c.pow.ensures)

@@ -1,6 +1,6 @@
 use Rattle.hilti_resolve.proofs.Firsts.{first_told, first_here, first_more, first_at_end}
 use Rattle.hilti_link.specs.Entries.{entry_refusal}
-use Rattle.hilti_link.proofs.AnsweringHooks.{answers_stop}
+use Rattle.hilti_link.proofs.Answering.{answers_stop}
 use Rattle.hilti_link.proofs.entries.refuse_items.Goals as goal
 
 pub returns-in_err-refuse_entry : goal.returns-in_err-refuse_entry

@@ -3,7 +3,7 @@ use Rattle.hilti_scope.specs.Scopes.{means}
 use Rattle.hilti_resolve.specs.Written.{Written, says}
 use Rattle.hilti_link.proofs.SameWritten.{test_same}
 use Rattle.hilti_link.proofs.Agreeing.{agree, agree_apart, agree_more, agree_stops, agree_end}
-use Rattle.hilti_syntax.specs.declared.module.Parameter.{Parameter}
+use Rattle.hilti_module.specs.declared.module.Parameter.{Parameter}
 use Rattle.hilti_scope.specs.declared.scope.Scope.{Scope}
 use Rattle.hilti_link.proofs.hooks.agrees.Goals as goal
 

@@ -1,11 +1,11 @@
 use Rattle.std.proofs.Common.{◌≡◌, refl, sym, ◌∙◌, ap, List, [], Option, None}
 use Rattle.std.specs.Option.{option_map, option_or}
 use Rattle.hilti_base.specs.declared.refusal.Refusal.{Refusal}
-use Rattle.hilti_syntax.specs.declared.types.TypeText.{TypeText}
-use Rattle.hilti_syntax.specs.declared.types.Word.{Word}
-use Rattle.hilti_syntax.specs.declared.module.Body.{Body}
-use Rattle.hilti_syntax.specs.declared.module.Item.TheVariants.{Function}
-use Rattle.hilti_syntax.specs.declared.module.Parameter.{Parameter}
+use Rattle.hilti_module.specs.declared.types.TypeText.{TypeText}
+use Rattle.hilti_module.specs.declared.types.Word.{Word}
+use Rattle.hilti_module.specs.declared.module.Body.{Body}
+use Rattle.hilti_module.specs.declared.module.Item.TheVariants.{Function}
+use Rattle.hilti_module.specs.declared.module.Parameter.{Parameter}
 use Rattle.hilti_types.specs.declared.value_type.ValueType.{ValueType}
 use Rattle.hilti_scope.specs.declared.scope.Scope.{Scope}
 use Rattle.hilti_link.specs.declared.tables.Tables.{Tables}
@@ -13,7 +13,8 @@ use Rattle.hilti_link.specs.Items.{Seen, item_refusal, tables_behind, declared_a
 use Rattle.hilti_link.specs.Seeing.{View, type_at, qualified}
 use Rattle.hilti_link.specs.Standings.{SeesPlain}
 use Rattle.hilti_link.specs.Views.{view_in}
-use Rattle.hilti_link.proofs.AnsweringItems.{Refuses, refuses, refuses_as, refuses_or, refuses_behind, behind_none, handed_on, view_is}
+use Rattle.hilti_link.proofs.Answering.{Refused, refuses, refused_as, answers_or, answers_behind, behind_none, handed_on}
+use Rattle.hilti_link.proofs.AnsweringItems.{view_is}
 use Rattle.hilti_link.proofs.Slots.{slots_seen, slots_refusal_is, behind_body}
 use Rattle.hilti_link.proofs.items.link_function.Goals as goal
 
@@ -29,15 +30,15 @@ module _ (seen : Seen) (tables : Tables) (scope : Scope) (returns : Option TypeT
   result_refusal_is : result_refusal (view_in tables scope) returns ≡ result_refusal (view_of seen) returns
   result_refusal_is = ap (λ (v : View). result_refusal v returns) view
 
-  bad_result : (e : Refusal) → Refuses e (result_refusal (view_in tables scope) returns) → Refuses e (item_refusal seen (Function returns name parameters body))
-  bad_result e is = refuses_as e _ _ (sym parts) (refuses_or e _ _ (refuses_as e _ _ result_refusal_is is))
+  bad_result : (e : Refusal) → Refused e (result_refusal (view_in tables scope) returns) → Refused e (item_refusal seen (Function returns name parameters body))
+  bad_result e is = refused_as e _ _ (sym parts) (answers_or e _ _ (refused_as e _ _ result_refusal_is is))
 
-  bad_name : (e : Refusal) → result_refusal (view_in tables scope) returns ≡ None → Refuses e (declared_again seen name) → Refuses e (item_refusal seen (Function returns name parameters body))
-  bad_name e none is = refuses_as e _ _ (sym parts) (refuses_behind e _ _ (sym result_refusal_is ∙ none) (refuses_or e _ _ is))
+  bad_name : (e : Refusal) → result_refusal (view_in tables scope) returns ≡ None → Refused e (declared_again seen name) → Refused e (item_refusal seen (Function returns name parameters body))
+  bad_name e none is = refused_as e _ _ (sym parts) (answers_behind e _ _ (sym result_refusal_is ∙ none) (answers_or e _ _ is))
 
-  bad_slot : (e : Refusal) → result_refusal (view_in tables scope) returns ≡ None → declared_again seen name ≡ None → Refuses e (slots_refusal seen (slots_of parameters body))
-      → Refuses e (item_refusal seen (Function returns name parameters body))
-  bad_slot e none new is = refuses_as e _ _ (sym parts) (refuses_behind e _ _ (sym result_refusal_is ∙ none) (refuses_behind e _ _ new is))
+  bad_slot : (e : Refusal) → result_refusal (view_in tables scope) returns ≡ None → declared_again seen name ≡ None → Refused e (slots_refusal seen (slots_of parameters body))
+      → Refused e (item_refusal seen (Function returns name parameters body))
+  bad_slot e none new is = refused_as e _ _ (sym parts) (answers_behind e _ _ (sym result_refusal_is ∙ none) (answers_behind e _ _ new is))
 
   good : result_refusal (view_in tables scope) returns ≡ None → declared_again seen name ≡ None → slots_refusal seen (slots_of parameters body) ≡ None
       → item_refusal seen (Function returns name parameters body) ≡ None
@@ -74,7 +75,7 @@ returns-in_err-slots-clause-refusal c = λ seen context stands same.
     handed_on c.from_residual-in_err-slots.result c.in_err-slots.field-0.0 _ c.from_residual-in_err-slots.ensures.1
     (bad_slot seen c.args.tables.now c.scope-scope.result c.args.returns.now c.args.name.now c.args.parameters.now c.args.body.now sees same c.in_err-slots.field-0.0
     c.in_ok-result.ensures.refusal (c.in_ok-refuse_declared.ensures seen sees)
-    (refuses_as c.in_err-slots.field-0.0 _ _
+    (refused_as c.in_err-slots.field-0.0 _ _
     (slots_refusal_is seen c.args.tables.now c.in_ok-inside.inside c.args.parameters.now c.args.body.now c.as_slice-3.result.now c.as_slice-4.result.now
     (record { front_are = c.as_slice-3.ensures; others_are = c.as_slice-4.ensures }) inside)
     (refuses (List ValueType) c.in_err-slots.field-0.0 _ c.in_err-slots.ensures.refusal)))

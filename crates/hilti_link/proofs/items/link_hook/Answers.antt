@@ -1,9 +1,9 @@
 use Rattle.std.proofs.Common.{◌≡◌, refl, sym, ◌∙◌, ap, ℕ, List, [], ◌∷◌, ◌++◌, None}
 use Rattle.std.specs.Option.{option_or}
 use Rattle.hilti_base.specs.declared.refusal.Refusal.{Refusal}
-use Rattle.hilti_syntax.specs.declared.types.Word.{Word}
-use Rattle.hilti_syntax.specs.declared.module.Item.TheVariants.{Hook}
-use Rattle.hilti_syntax.specs.declared.module.Parameter.{Parameter}
+use Rattle.hilti_module.specs.declared.types.Word.{Word}
+use Rattle.hilti_module.specs.declared.module.Item.TheVariants.{Hook}
+use Rattle.hilti_module.specs.declared.module.Parameter.{Parameter}
 use Rattle.hilti_types.specs.declared.value_type.ValueType.{ValueType}
 use Rattle.hilti_scope.specs.declared.scope.Scope.{Scope}
 use Rattle.hilti_link.specs.declared.tables.LinkedHook.{LinkedHook}
@@ -15,7 +15,8 @@ use Rattle.hilti_link.specs.Seeing.{qualified}
 use Rattle.hilti_link.specs.Standings.{SeesPlain}
 use Rattle.hilti_link.specs.TypedWords.{words_refusal, kinds_of}
 use Rattle.hilti_link.specs.Views.{view_in}
-use Rattle.hilti_link.proofs.AnsweringItems.{Refuses, refuses, refuses_as, refuses_or, refuses_behind, behind_none, handed_on, view_is}
+use Rattle.hilti_link.proofs.Answering.{Refused, refuses, refused_as, answers_or, answers_behind, behind_none, handed_on}
+use Rattle.hilti_link.proofs.AnsweringItems.{view_is}
 use Rattle.hilti_link.proofs.items.link_hook.Goals as goal
 
 module _ (seen : Seen) (tables : Tables) (scope : Scope) (name : Word) (parameters words : List Parameter) (words_are : words ≡ parameters) (sees : SeesPlain seen scope) (same : seen.tables ≡ tables) where
@@ -29,11 +30,11 @@ module _ (seen : Seen) (tables : Tables) (scope : Scope) (name : Word) (paramete
   words_refusal_is : words_refusal (view_in tables scope) roles.Slot words ≡ words_refusal (view_of seen) roles.Slot parameters
   words_refusal_is = λ i. words_refusal (view i) roles.Slot (words_are i)
 
-  bad_name : (e : Refusal) → Refuses e (declared_again seen name) → Refuses e (item_refusal seen (Hook name parameters))
-  bad_name e is = refuses_as e _ _ (sym parts) (refuses_or e _ _ is)
+  bad_name : (e : Refusal) → Refused e (declared_again seen name) → Refused e (item_refusal seen (Hook name parameters))
+  bad_name e is = refused_as e _ _ (sym parts) (answers_or e _ _ is)
 
-  bad_parameter : (e : Refusal) → declared_again seen name ≡ None → Refuses e (words_refusal (view_in tables scope) roles.Slot words) → Refuses e (item_refusal seen (Hook name parameters))
-  bad_parameter e new is = refuses_as e _ _ (sym parts) (refuses_behind e _ _ new (refuses_as e _ _ words_refusal_is is))
+  bad_parameter : (e : Refusal) → declared_again seen name ≡ None → Refused e (words_refusal (view_in tables scope) roles.Slot words) → Refused e (item_refusal seen (Hook name parameters))
+  bad_parameter e new is = refused_as e _ _ (sym parts) (answers_behind e _ _ new (refused_as e _ _ words_refusal_is is))
 
   good : declared_again seen name ≡ None → words_refusal (view_in tables scope) roles.Slot words ≡ None → item_refusal seen (Hook name parameters) ≡ None
   good new none = parts ∙ behind_none _ _ new ∙ sym words_refusal_is ∙ none

@@ -1,11 +1,11 @@
 use Rattle.std.proofs.Common.{◌≡◌, refl, sym, ◌∙◌, ap, ℕ, List, [], Option, None}
 use Rattle.std.specs.Option.{option_or}
 use Rattle.hilti_base.specs.declared.refusal.Refusal.{Refusal}
-use Rattle.hilti_syntax.specs.declared.types.Name.{Name}
-use Rattle.hilti_syntax.specs.declared.types.Number.{Number}
-use Rattle.hilti_syntax.specs.declared.module.Body.{Body}
-use Rattle.hilti_syntax.specs.declared.module.Item.TheVariants.{HookBody}
-use Rattle.hilti_syntax.specs.declared.module.Parameter.{Parameter}
+use Rattle.hilti_module.specs.declared.types.Name.{Name}
+use Rattle.hilti_module.specs.declared.types.Number.{Number}
+use Rattle.hilti_module.specs.declared.module.Body.{Body}
+use Rattle.hilti_module.specs.declared.module.Item.TheVariants.{HookBody}
+use Rattle.hilti_module.specs.declared.module.Parameter.{Parameter}
 use Rattle.hilti_types.specs.declared.value_type.ValueType.{ValueType}
 use Rattle.hilti_scope.specs.declared.meaning.Meaning.{Meaning}
 use Rattle.hilti_scope.specs.declared.scope.Scope.{Scope}
@@ -18,7 +18,7 @@ use Rattle.hilti_link.specs.Seeing.{View}
 use Rattle.hilti_link.specs.Standings.{SeesPlain}
 use Rattle.hilti_link.specs.TypedWords.{names_of}
 use Rattle.hilti_link.specs.Views.{view_in}
-use Rattle.hilti_link.proofs.AnsweringItems.{Refuses, refuses, refuses_as, refuses_or, refuses_behind, behind_none, handed_on}
+use Rattle.hilti_link.proofs.Answering.{Refused, refuses, refused_as, answers_or, answers_behind, behind_none, handed_on}
 use Rattle.hilti_link.proofs.Slots.{slots_seen, slots_refusal_is, behind_body}
 use Rattle.hilti_link.proofs.items.link_hook_body.Goals as goal
 
@@ -39,12 +39,12 @@ module _ (seen : Seen) (tables : Tables) (scope : Scope) (name : Name) (paramete
   hook_refusal_is : hook_meant seen.modules (means scope) words name.first.place meaning ≡ hook_refusal
   hook_refusal_is = λ i. hook_meant seen.modules (ap (λ (v : View). v.mean) view i) (words_are i) name.first.place (is_meant i)
 
-  bad_hook : (e : Refusal) → Refuses e (hook_meant seen.modules (means scope) words name.first.place meaning) → Refuses e (item_refusal seen (HookBody name parameters priority body))
-  bad_hook e is = refuses_as e _ _ (sym parts) (refuses_or e _ _ (refuses_as e _ _ hook_refusal_is is))
+  bad_hook : (e : Refusal) → Refused e (hook_meant seen.modules (means scope) words name.first.place meaning) → Refused e (item_refusal seen (HookBody name parameters priority body))
+  bad_hook e is = refused_as e _ _ (sym parts) (answers_or e _ _ (refused_as e _ _ hook_refusal_is is))
 
-  bad_slot : (e : Refusal) → hook_meant seen.modules (means scope) words name.first.place meaning ≡ None → Refuses e (slots_refusal seen (slots_of parameters body))
-      → Refuses e (item_refusal seen (HookBody name parameters priority body))
-  bad_slot e none is = refuses_as e _ _ (sym parts) (refuses_behind e _ _ (sym hook_refusal_is ∙ none) is)
+  bad_slot : (e : Refusal) → hook_meant seen.modules (means scope) words name.first.place meaning ≡ None → Refused e (slots_refusal seen (slots_of parameters body))
+      → Refused e (item_refusal seen (HookBody name parameters priority body))
+  bad_slot e none is = refused_as e _ _ (sym parts) (answers_behind e _ _ (sym hook_refusal_is ∙ none) is)
 
   good : hook_meant seen.modules (means scope) words name.first.place meaning ≡ None → slots_refusal seen (slots_of parameters body) ≡ None
       → item_refusal seen (HookBody name parameters priority body) ≡ None
@@ -57,7 +57,7 @@ unfolding tables_behind
 behind seen name parameters priority body = refl
 
 pub returns-in_err-hook-clause-refusal : goal.returns-in_err-hook-clause-refusal
-returns-in_err-hook-clause-refusal c = λ seen priority context stands same.
+returns-in_err-hook-clause-refusal c = λ priority seen context stands same.
     let plain = c.scope.ensures seen stands context.declarations_are in
     let inside = slots_seen seen c.args.tables.now c.in_ok-inside.inside c.args.parameters.now c.args.body.now c.as_slice.result.now c.as_slice-2.result.now
     (record { front_are = c.as_slice.ensures; others_are = c.as_slice-2.ensures }) (c.in_ok-inside.ensures seen stands context.declarations_are) same in
@@ -67,7 +67,7 @@ returns-in_err-hook-clause-refusal c = λ seen priority context stands same.
     (refuses (Option ℕ) c.in_err-hook.field-0.0 _ (c.in_err-hook.ensures.refusal seen.modules context)))
 
 pub returns-in_err-slots-clause-refusal : goal.returns-in_err-slots-clause-refusal
-returns-in_err-slots-clause-refusal c = λ seen priority context stands same.
+returns-in_err-slots-clause-refusal c = λ priority seen context stands same.
     let plain = c.scope.ensures seen stands context.declarations_are in
     let inside = slots_seen seen c.args.tables.now c.in_ok-inside.inside c.args.parameters.now c.args.body.now c.as_slice.result.now c.as_slice-2.result.now
     (record { front_are = c.as_slice.ensures; others_are = c.as_slice-2.ensures }) (c.in_ok-inside.ensures seen stands context.declarations_are) same in
@@ -75,13 +75,13 @@ returns-in_err-slots-clause-refusal c = λ seen priority context stands same.
     (bad_slot seen c.args.tables.now c.in_ok-inside.inside c.args.name.now c.args.parameters.now priority c.args.body.now c.as_slice-3.result.now c.meaning-meaning.result
     inside c.as_slice-3.ensures (meant seen c.scope.result c.args.name.now c.meaning-meaning.result plain c.meaning-meaning.ensures) c.in_err-slots.field-0.0
     (c.in_ok-hook.ensures.refusal seen.modules context)
-    (refuses_as c.in_err-slots.field-0.0 _ _
+    (refused_as c.in_err-slots.field-0.0 _ _
     (slots_refusal_is seen c.args.tables.now c.in_ok-inside.inside c.args.parameters.now c.args.body.now c.as_slice-4.result.now c.as_slice-5.result.now
     (record { front_are = c.as_slice-4.ensures; others_are = c.as_slice-5.ensures }) inside)
     (refuses (List ValueType) c.in_err-slots.field-0.0 _ c.in_err-slots.ensures.refusal)))
 
 pub returns-clause-tables : goal.returns-clause-tables
-returns-clause-tables c = λ seen priority context stands same.
+returns-clause-tables c = λ priority seen context stands same.
     let plain = c.scope.ensures seen stands context.declarations_are in
     let inside = slots_seen seen c.args.tables.now c.in_ok-inside.inside c.args.parameters.now c.args.body.now c.as_slice.result.now c.as_slice-2.result.now
     (record { front_are = c.as_slice.ensures; others_are = c.as_slice-2.ensures }) (c.in_ok-inside.ensures seen stands context.declarations_are) same in
@@ -93,7 +93,7 @@ returns-clause-tables c = λ seen priority context stands same.
     ∙ behind seen c.args.name.now c.args.parameters.now priority c.args.body.now
 
 pub returns-clause-refusal : goal.returns-clause-refusal
-returns-clause-refusal c = λ seen priority context stands same.
+returns-clause-refusal c = λ priority seen context stands same.
     let plain = c.scope.ensures seen stands context.declarations_are in
     let inside = slots_seen seen c.args.tables.now c.in_ok-inside.inside c.args.parameters.now c.args.body.now c.as_slice.result.now c.as_slice-2.result.now
     (record { front_are = c.as_slice.ensures; others_are = c.as_slice-2.ensures }) (c.in_ok-inside.ensures seen stands context.declarations_are) same in

@@ -2,9 +2,9 @@ use Rattle.std.proofs.Common.{◌≡◌, refl, sym, ◌∙◌, ap, ℕ, List, []
 use Rattle.std.specs.Option.{option_or}
 use Rattle.std.proofs.lemmas.Result.{on_ok_weaker}
 use Rattle.hilti_base.specs.declared.refusal.Refusal.{Refusal}
-use Rattle.hilti_syntax.specs.declared.types.Word.{Word}
-use Rattle.hilti_syntax.specs.declared.module.Item.TheVariants as items
-use Rattle.hilti_syntax.specs.declared.module.Shape.{Shape}
+use Rattle.hilti_module.specs.declared.types.Word.{Word}
+use Rattle.hilti_module.specs.declared.module.Item.TheVariants as items
+use Rattle.hilti_module.specs.declared.module.Shape.{Shape}
 use Rattle.hilti_scope.specs.declared.scope.Scope.{Scope}
 use Rattle.hilti_link.specs.declared.tables.Site.{Site}
 use Rattle.hilti_link.specs.declared.tables.Tables.{Tables}
@@ -13,7 +13,8 @@ use Rattle.hilti_link.specs.Seeing.{View, qualified}
 use Rattle.hilti_link.specs.Shapes.{shape_refusal}
 use Rattle.hilti_link.specs.Standings.{SeesPlain}
 use Rattle.hilti_link.specs.Views.{view_in}
-use Rattle.hilti_link.proofs.AnsweringItems.{Refuses, refuses_as, refuses_or, behind_none, answers_as, handed_on, view_is}
+use Rattle.hilti_link.proofs.Answering.{Refused, refused_as, answers_or, behind_none, answers_as, handed_on}
+use Rattle.hilti_link.proofs.AnsweringItems.{view_is}
 use Rattle.hilti_link.proofs.items.link_type.Goals as goal
 
 module _ (seen : Seen) (tables : Tables) (scope : Scope) (name : Word) (shape : Shape) (sees : SeesPlain seen scope) (same : seen.tables ≡ tables) where
@@ -24,8 +25,8 @@ module _ (seen : Seen) (tables : Tables) (scope : Scope) (name : Word) (shape : 
   view : view_in tables scope ≡ view_of seen
   view = view_is seen [] tables scope sees same
 
-  bad_name : (e : Refusal) → Refuses e (declared_again seen name) → Refuses e (item_refusal seen (items.Type name shape))
-  bad_name e is = refuses_as e _ _ (sym parts) (refuses_or e _ _ is)
+  bad_name : (e : Refusal) → Refused e (declared_again seen name) → Refused e (item_refusal seen (items.Type name shape))
+  bad_name e is = refused_as e _ _ (sym parts) (answers_or e _ _ is)
 
   by_shape : declared_again seen name ≡ None → shape_refusal (view_in tables scope) shape ≡ item_refusal seen (items.Type name shape)
   by_shape new = ap (λ (v : View). shape_refusal v shape) view ∙ sym (behind_none _ _ new) ∙ sym parts

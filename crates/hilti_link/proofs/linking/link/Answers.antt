@@ -26,7 +26,12 @@ returns-in_err-refuse_entries-clause-refusal c =
 pub invariant_of-result : goal.invariant_of-result
 invariant_of-result c =
     let few = c.requires.few in
-    omega (arith, modules_bounded c.args.modules)
+    record {
+      accepted = accepted c.args.modules c.in_ok-declarations.ensures.refusal c.in_ok-refuse_entries.ensures;
+      declares = c.in_ok-declarations.ensures.declarations;
+      tabled = c.in_ok-declarations.ensures.tables;
+      bounded = omega (arith, modules_bounded c.args.modules);
+    }
 
 pub returns-clause-accepted : goal.returns-clause-accepted
 returns-clause-accepted c = accepted c.args.modules c.in_ok-declarations.ensures.refusal c.in_ok-refuse_entries.ensures

@@ -1,10 +1,8 @@
 use Rattle.std.proofs.Common.{◌≡◌, ◌∙◌, ap, ℕ, min, max, nat_cmp, arith}
 use Rattle.std.specs.Ordering.{ord_max}
 use Rattle.std.proofs.lemmas.Grind.{common_steps}
-use Rattle.hilti_syntax.specs.declared.module.Parameter.{Parameter}
+use Rattle.hilti_module.specs.declared.module.Parameter.{Parameter}
 use Rattle.hilti_types.proofs.Deepest.{deepest_more}
-use Rattle.hilti_scope.specs.Scopes.{means}
-use Rattle.hilti_resolve.specs.Depth.{written_depth}
 use Rattle.hilti_link.specs.Seeing.{depth_at}
 use Rattle.hilti_link.specs.Views.{view_in}
 use Rattle.hilti_link.proofs.shapes.struct_depth.Goals as goal
@@ -19,5 +17,5 @@ loop-field-preserved c =
     let field = c.field-item.result in
     c.max-deepest.ensures
     ∙ deeper c.loop-field.deepest c.capped_depth-field_depth.result _ _ (depth_at view field.kind) c.loop-field.invariant
-    (c.capped_depth-field_depth.ensures ∙ ap (λ depths. min 17 (written_depth depths (means c.args.scope.now) field.kind)) c.as_slice.ensures)
+    c.capped_depth-field_depth.ensures
     (deepest_more (λ (field : Parameter). depth_at view field.kind) c.args.fields.now c.loop-field.field-index field c.loop-field-test.true c.field-item.is)

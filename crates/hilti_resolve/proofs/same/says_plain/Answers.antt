@@ -1,5 +1,5 @@
 use Rattle.std.proofs.Common.{◌≡◌, ◌∙◌, sym, ap, rules}
-use Rattle.hilti_syntax.specs.declared.types.PlainType.TheVariants.{Bytes}
+use Rattle.hilti_module.specs.declared.types.PlainType.TheVariants.{Bytes}
 use Rattle.hilti_resolve.specs.Written.{Plain, inner_writes, parametric_writes, reference_to}
 use Rattle.hilti_resolve.proofs.Says.{reference_says}
 use Rattle.hilti_resolve.proofs.SameParts.{plain_reference}

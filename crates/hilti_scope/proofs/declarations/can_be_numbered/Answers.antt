@@ -1,5 +1,5 @@
 use Rattle.std.proofs.Common.{length, ap, arith, true≢false, sym}
-use Rattle.hilti_syntax.specs.declared.module.Module.{Module}
+use Rattle.hilti_module.specs.declared.module.Module.{Module}
 use Rattle.hilti_scope.specs.Items.{placed, placed_from}
 use Rattle.hilti_scope.proofs.Modules.{room, count_push}
 use Rattle.hilti_scope.proofs.declarations.can_be_numbered.Goals as goal

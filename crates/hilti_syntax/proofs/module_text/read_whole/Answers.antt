@@ -1,6 +1,6 @@
 use Rattle.hilti_grammar.specs.Runs.{Runs.FirstFails, Runs.Then, Runs.Follows}
 use Rattle.hilti_syntax.proofs.Bounds.{module_within}
-use Rattle.hilti_syntax.proofs.Exits.{exits}
+use Rattle.hilti_reader.proofs.Exits.{exits}
 use Rattle.hilti_syntax.proofs.module_text.read_whole.Goals as goal
 
 pub returns-in_err-skip : goal.returns-in_err-skip

@@ -1,10 +1,10 @@
 use Rattle.std.proofs.Common.{◌∙◌, sym}
 use Rattle.hilti_grammar.specs.Grammar.{Symbol.Rule}
-use Rattle.hilti_syntax.specs.Modules.{RuleName.LineText as a_line}
+use Rattle.hilti_reader.specs.Modules.{RuleName.LineText as a_line}
 use Rattle.hilti_syntax.specs.Items.{line_tree}
 use Rattle.hilti_syntax.proofs.Firsts.{sees_line}
-use Rattle.hilti_syntax.proofs.Exits.{exits, gives_up}
-use Rattle.hilti_syntax.proofs.Repeating.{many_begin, many_next, many_fail, many_end, shrinks_or_stays, stays}
+use Rattle.hilti_reader.proofs.Exits.{exits, gives_up}
+use Rattle.hilti_reader.proofs.Repeating.{many_begin, many_next, many_fail, many_end, shrinks_or_stays, stays}
 use Rattle.hilti_syntax.proofs.read_bodies.read_lines.Goals as goal
 
 pub lines-init : goal.lines-init

@@ -1,8 +1,8 @@
 use Rattle.std.proofs.Common.{◌≤◌, length}
 use Rattle.hilti_grammar.specs.Grammar.{Symbol.Rule}
-use Rattle.hilti_syntax.specs.Modules.{RuleName.LineText as a_line}
+use Rattle.hilti_reader.specs.Modules.{RuleName.LineText as a_line}
 use Rattle.hilti_syntax.specs.Items.{line_tree}
-use Rattle.hilti_syntax.specs.Parts.{RepeatsAll}
+use Rattle.hilti_reader.specs.Loops.{RepeatsAll}
 use Rattle.hilti_syntax.proofs.read_bodies.read_lines.Given as goal
 
 abbrev pub invariant-lines : goal.invariant-lines

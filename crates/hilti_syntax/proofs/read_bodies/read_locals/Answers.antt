@@ -1,9 +1,9 @@
 use Rattle.std.proofs.Common.{◌∙◌, sym}
 use Rattle.hilti_syntax.specs.Items.{local_tree}
-use Rattle.hilti_syntax.specs.Parts.{local_line}
-use Rattle.hilti_syntax.proofs.Exits.{exits, gives_up}
-use Rattle.hilti_syntax.proofs.Repeating.{many_begin, many_next, many_fail, many_end, shrinks_or_stays, stays}
+use Rattle.hilti_reader.proofs.Exits.{exits, gives_up}
+use Rattle.hilti_reader.proofs.Repeating.{many_begin, many_next, many_fail, many_end, shrinks_or_stays, stays}
 use Rattle.hilti_syntax.proofs.read_bodies.read_locals.Goals as goal
+use Rattle.hilti_reader.specs.Modules.{local_line}
 
 pub locals-init : goal.locals-init
 locals-init c = (

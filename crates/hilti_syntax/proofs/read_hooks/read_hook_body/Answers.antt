@@ -1,5 +1,5 @@
 use Rattle.hilti_grammar.specs.Runs.{Runs.FirstFails, Runs.Then, Runs.Follows}
-use Rattle.hilti_syntax.proofs.Exits.{exits}
+use Rattle.hilti_reader.proofs.Exits.{exits}
 use Rattle.hilti_syntax.proofs.read_hooks.read_hook_body.Goals as goal
 
 pub returns-in_err-priority-clause-reads : goal.returns-in_err-priority-clause-reads

@@ -1,6 +1,6 @@
 use Rattle.std.proofs.Common.{◌∙◌, sym}
 use Rattle.hilti_grammar.specs.Runs.{Runs.FirstFails, Runs.Then, Runs.Follows, Runs.ToLeft, Runs.ToRight}
-use Rattle.hilti_syntax.proofs.Exits.{exits}
+use Rattle.hilti_reader.proofs.Exits.{exits}
 use Rattle.hilti_syntax.proofs.read_hooks.read_hook_rest.Goals as goal
 
 pub returns-in_err-skip-clause-reads : goal.returns-in_err-skip-clause-reads

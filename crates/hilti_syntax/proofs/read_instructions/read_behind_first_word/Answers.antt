@@ -1,5 +1,5 @@
 use Rattle.hilti_grammar.specs.Runs.{Runs.FirstFails, Runs.Then}
-use Rattle.hilti_syntax.proofs.Exits.{exits}
+use Rattle.hilti_reader.proofs.Exits.{exits}
 use Rattle.hilti_syntax.proofs.read_instructions.read_behind_first_word.Goals as goal
 
 pub returns-in_err-second-clause-reads : goal.returns-in_err-second-clause-reads

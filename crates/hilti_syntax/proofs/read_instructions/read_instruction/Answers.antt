@@ -1,6 +1,6 @@
 use Rattle.hilti_grammar.specs.Runs.{Runs.FirstFails, Runs.Then, Runs.Follows}
-use Rattle.hilti_syntax.proofs.Exits.{exits, gives}
-use Rattle.hilti_syntax.proofs.Operands.{begins_with}
+use Rattle.hilti_reader.proofs.Exits.{exits, gives}
+use Rattle.hilti_syntax.proofs.Lines.{begins_with}
 use Rattle.hilti_syntax.proofs.read_instructions.read_instruction.Goals as goal
 
 pub returns-in_err-first-clause-reads : goal.returns-in_err-first-clause-reads

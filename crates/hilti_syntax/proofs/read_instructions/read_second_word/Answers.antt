@@ -1,6 +1,6 @@
 use Rattle.std.proofs.Common.{◌∙◌, sym}
 use Rattle.hilti_grammar.specs.Runs.{Runs.FirstFails, Runs.Then, Runs.ToLeft, Runs.ToRight, Runs.Leaves}
-use Rattle.hilti_syntax.proofs.Exits.{exits}
+use Rattle.hilti_reader.proofs.Exits.{exits}
 use Rattle.hilti_syntax.proofs.read_instructions.read_second_word.Goals as goal
 
 pub returns-then-not-sees-clause-reads : goal.returns-then-not-sees-clause-reads

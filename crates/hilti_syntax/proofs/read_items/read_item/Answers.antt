@@ -1,6 +1,6 @@
 use Rattle.std.proofs.Common.{◌∙◌, sym}
 use Rattle.hilti_grammar.specs.Runs.{Runs.FirstFails, Runs.Then, Runs.Follows, Runs.ToLeft, Runs.ToRight}
-use Rattle.hilti_syntax.proofs.Exits.{exits, gives}
+use Rattle.hilti_reader.proofs.Exits.{exits, gives}
 use Rattle.hilti_syntax.proofs.read_items.read_item.Goals as goal
 
 pub returns-in_err-skip-clause-reads : goal.returns-in_err-skip-clause-reads

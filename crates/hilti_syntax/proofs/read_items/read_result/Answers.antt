@@ -1,6 +1,6 @@
 use Rattle.std.proofs.Common.{◌∙◌, sym}
 use Rattle.hilti_grammar.specs.Runs.{Runs.ToLeft, Runs.ToRight}
-use Rattle.hilti_syntax.proofs.Exits.{exits}
+use Rattle.hilti_reader.proofs.Exits.{exits}
 use Rattle.hilti_syntax.proofs.read_items.read_result.Goals as goal
 
 pub returns-in_err-skip-clause-reads : goal.returns-in_err-skip-clause-reads

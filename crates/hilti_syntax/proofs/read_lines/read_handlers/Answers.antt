@@ -1,9 +1,9 @@
 use Rattle.std.proofs.Common.{◌∙◌, sym}
 use Rattle.hilti_syntax.specs.Items.{handler_tree}
-use Rattle.hilti_syntax.specs.Parts.{handler}
-use Rattle.hilti_syntax.proofs.Exits.{exits, gives_up}
-use Rattle.hilti_syntax.proofs.Repeating.{many_begin, many_next, many_fail, many_end, shrinks_or_stays, stays}
+use Rattle.hilti_reader.proofs.Exits.{exits, gives_up}
+use Rattle.hilti_reader.proofs.Repeating.{many_begin, many_next, many_fail, many_end, shrinks_or_stays, stays}
 use Rattle.hilti_syntax.proofs.read_lines.read_handlers.Goals as goal
+use Rattle.hilti_reader.specs.Modules.{handler}
 
 pub handlers-init : goal.handlers-init
 handlers-init c = (

@@ -1,5 +1,5 @@
 use Rattle.hilti_grammar.specs.Runs.{Runs.FirstFails, Runs.Then}
-use Rattle.hilti_syntax.proofs.Exits.{exits}
+use Rattle.hilti_reader.proofs.Exits.{exits}
 use Rattle.hilti_syntax.proofs.read_lines.read_label.Goals as goal
 
 pub returns-in_err-place-clause-reads : goal.returns-in_err-place-clause-reads

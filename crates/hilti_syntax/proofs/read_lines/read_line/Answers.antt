@@ -1,6 +1,6 @@
 use Rattle.std.proofs.Common.{◌∙◌, sym}
 use Rattle.hilti_grammar.specs.Runs.{Runs.FirstFails, Runs.Then, Runs.Follows, Runs.ToLeft, Runs.ToRight}
-use Rattle.hilti_syntax.proofs.Exits.{exits, gives}
+use Rattle.hilti_reader.proofs.Exits.{exits, gives}
 use Rattle.hilti_syntax.proofs.Lines.{reserved_line, name_not_reserved}
 use Rattle.hilti_syntax.proofs.read_lines.read_line.Goals as goal
 

@@ -4,6 +4,7 @@ use Rattle.hilti_top.specs.declared.modules.ModulesFault.TheVariants.{At}
 use Rattle.hilti_top.specs.InputFaults.{of_refusal}
 use Rattle.hilti_top.specs.ModuleTexts.{IsRefused}
 use Rattle.hilti_top.proofs.Named.{refused_as}
+use Rattle.hilti_top.proofs.Opened.{refused_behind}
 use Rattle.hilti_top.proofs.modules.read_modules.Goals as goal
 
 pub returns-in_err-printed_by_texts-clause-refused : goal.returns-in_err-printed_by_texts-clause-refused
@@ -12,3 +13,9 @@ returns-in_err-printed_by_texts-clause-refused g c = λ place code is all told.
     let refused : of_refusal c.in_err-printed_by_texts.field-0.0 ≡ At place code = cc (failed.1, failed.2, is) in
     let is_refused = c.in_err-printed_by_texts.ensures.refused place code (ap Err (refused_as c.in_err-printed_by_texts.field-0.0 place code refused)) in
     subst (λ texts. IsRefused texts place code) (c.in_ok-texts.ensures.texts all told) is_refused
+
+pub returns-in_err-printed_by_texts-clause-opened_refused :
+    goal.returns-in_err-printed_by_texts-clause-opened_refused
+returns-in_err-printed_by_texts-clause-opened_refused g c = λ place code is.
+    refused_behind (g.F.Files.files c.args.files.now) (g.F.Files.opened c.args.files.now) (g.F.Files.opened c.read_texts.new.files)
+    c.args.names.now c.in_ok-texts.texts place code c.in_ok-texts.ensures.opened c.in_ok-texts.ensures.texts c.in_ok-texts.ensures.short

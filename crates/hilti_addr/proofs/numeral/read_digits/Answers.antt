@@ -1,5 +1,0 @@
-use Rattle.hilti_addr.proofs.Digits.{digits_are_text}
-use Rattle.hilti_addr.proofs.numeral.read_digits.Goals as goal
-
-pub returns-in_default : goal.returns-in_default
-returns-in_default c = λ is. c.in_default.ensures.cases.0 (digits_are_text c.args.text.now is.0.1)

@@ -1,0 +1,5 @@
+use Rattle.hilti_clock.proofs.Decimals as decimals
+use Rattle.hilti_clock.proofs.laws.one_time.Goals as goal
+
+pub returns : goal.returns
+returns c = decimals.one_time

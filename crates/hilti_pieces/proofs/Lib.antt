@@ -1,0 +1,3 @@
+pub mod PieceExamples
+pub mod PieceLoop
+pub mod Splits

@@ -1,0 +1,15 @@
+use Rattle.hilti_grammar.specs.Runs.{Runs.FirstFails, Runs.Then}
+use Rattle.hilti_reader.proofs.Exits.{exits}
+use Rattle.hilti_read_literals.proofs.read_literals.read_seconds.Goals as goal
+
+pub returns-in_err-skip-clause-reads : goal.returns-in_err-skip-clause-reads
+returns-in_err-skip-clause-reads c = exits _ _ _ _ c.from_residual.result c.in_err-skip.field-0.0 c.from_residual.ensures.1 (FirstFails c.in_err-skip.ensures.reads)
+
+pub returns-in_err-seconds-clause-reads : goal.returns-in_err-seconds-clause-reads
+returns-in_err-seconds-clause-reads c = exits _ _ _ _ c.from_residual-in_err-seconds.result c.in_err-seconds.field-0.0 c.from_residual-in_err-seconds.ensures.1 (Then c.in_ok-skip.ensures.reads (FirstFails c.in_err-seconds.ensures.reads))
+
+pub returns-in_err-skip-2-clause-reads : goal.returns-in_err-skip-2-clause-reads
+returns-in_err-skip-2-clause-reads c = exits _ _ _ _ c.from_residual-in_err-skip-2.result c.in_err-skip-2.field-0.0 c.from_residual-in_err-skip-2.ensures.1 (Then c.in_ok-skip.ensures.reads (Then c.in_ok-seconds.ensures.reads c.in_err-skip-2.ensures.reads))
+
+pub returns-clause-reads : goal.returns-clause-reads
+returns-clause-reads c = Then c.in_ok-skip.ensures.reads (Then c.in_ok-seconds.ensures.reads c.in_ok-skip-2.ensures.reads)

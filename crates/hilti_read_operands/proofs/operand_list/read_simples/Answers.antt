@@ -1,0 +1,38 @@
+use Rattle.std.proofs.Common.{◌∙◌, sym, ap, List, [], ◌∷◌, ◌++◌}
+use Rattle.hilti_grammar.specs.Runs.{Runs.FirstFails}
+use Rattle.hilti_grammar.specs.Grammar.{Symbol.Rule}
+use Rattle.hilti_module.specs.declared.module.Simple.{Simple}
+use Rattle.hilti_read_operands.specs.Operands.{simple_tree}
+use Rattle.hilti_reader.specs.Modules.{RuleName.SimpleText as a_simple}
+use Rattle.hilti_reader.proofs.Exits.{exits, gives_up}
+use Rattle.hilti_reader.proofs.Gathering.{all_begin, all_next, all_fail, all_stop, all_end}
+use Rattle.hilti_read_types.proofs.ReadingTypes.{shrinks}
+use Rattle.hilti_read_operands.proofs.Operands.{gathers_some}
+use Rattle.hilti_read_operands.proofs.operand_list.read_simples.Goals as goal
+
+pub returns-in_err-first-clause-reads : goal.returns-in_err-first-clause-reads
+returns-in_err-first-clause-reads c = exits _ _ _ _ c.from_residual.result c.in_err-first.field-0.0 c.from_residual.ensures.1 (FirstFails c.in_err-first.ensures.reads)
+
+pub returns-in_err-push-clause-reads : goal.returns-in_err-push-clause-reads
+returns-in_err-push-clause-reads c = gives_up _ _ _ _ c.from_residual-in_err-push.result c.from_residual-in_err-push.ensures.1
+
+pub items-init : goal.items-init
+items-init c = (all_begin (Rule a_simple) simple_tree _ _ _ c.in_ok-first.first (c.in_ok-push.ensures.ok ∙ ap (λ (l : List Simple). l ++ c.in_ok-first.first ∷ []) c.new-items.ensures) c.in_ok-first.ensures.reads, c.in_ok-first.ensures.shorter)
+
+pub returns-in_err-skip-clause-reads : goal.returns-in_err-skip-clause-reads
+returns-in_err-skip-clause-reads c = exits _ _ _ _ c.from_residual-in_err-skip.result c.in_err-skip.field-0.0 c.from_residual-in_err-skip.ensures.1 (all_stop (Rule a_simple) simple_tree _ _ _ c.items.items _ c.items.invariant.0 (sym c.sees.ensures ∙ c.items-test.true) c.in_err-skip.ensures.reads)
+
+pub returns-in_err-next-clause-reads : goal.returns-in_err-next-clause-reads
+returns-in_err-next-clause-reads c = exits _ _ _ _ c.from_residual-in_err-next.result c.in_err-next.field-0.0 c.from_residual-in_err-next.ensures.1 (all_fail (Rule a_simple) simple_tree _ _ _ _ c.items.items _ c.items.invariant.0 (sym c.sees.ensures ∙ c.items-test.true) c.in_ok-skip.ensures.reads c.in_err-next.ensures.reads)
+
+pub returns-in_err-push-2-clause-reads : goal.returns-in_err-push-2-clause-reads
+returns-in_err-push-2-clause-reads c = gives_up _ _ _ _ c.from_residual-in_err-push-2.result c.from_residual-in_err-push-2.ensures.1
+
+pub items-preserved : goal.items-preserved
+items-preserved c = (all_next (Rule a_simple) simple_tree _ _ _ _ c.items.items _ c.in_ok-next.next c.in_ok-push-2.ensures.ok c.items.invariant.0 (sym c.sees.ensures ∙ c.items-test.true) c.in_ok-skip.ensures.reads c.in_ok-next.ensures.reads, shrinks _ _ _ _ c.items.invariant.1 c.in_ok-skip.ensures.shorter c.in_ok-next.ensures.shorter)
+
+pub returns-clause-reads : goal.returns-clause-reads
+returns-clause-reads c = all_end (Rule a_simple) simple_tree _ _ c.items.items c.items.invariant.0 (sym c.sees.ensures ∙ c.items-test.false)
+
+pub returns-clause-some : goal.returns-clause-some
+returns-clause-some c = gathers_some (Rule a_simple) simple_tree _ _ c.items.items c.items.invariant.0

@@ -1,0 +1,2 @@
+pub mod ReadingArguments
+pub mod ReadingForms

@@ -1,0 +1,35 @@
+use Rattle.std.proofs.Common.{◌∙◌, sym}
+use Rattle.hilti_grammar.specs.Runs.{Runs.FirstFails, Runs.Then, Runs.ToLeft, Runs.ToRight, Runs.Leaves}
+use Rattle.hilti_reader.proofs.Exits.{exits}
+use Rattle.hilti_read_shapes.proofs.read_forms.read_bits.Goals as goal
+
+pub returns-then-not-sees-clause-reads : goal.returns-then-not-sees-clause-reads
+returns-then-not-sees-clause-reads c = ToRight (sym c.sees.ensures ∙ c.if-not-sees.true) Leaves
+
+pub returns-in_err-skip-clause-reads : goal.returns-in_err-skip-clause-reads
+returns-in_err-skip-clause-reads c =
+    exits _ _ _ _ c.from_residual.result c.in_err-skip.field-0.0 c.from_residual.ensures.1
+    (ToLeft (sym c.sees.ensures ∙ c.if-not-sees.false) (FirstFails c.in_err-skip.ensures.reads))
+
+pub returns-in_err-low-clause-reads : goal.returns-in_err-low-clause-reads
+returns-in_err-low-clause-reads c =
+    exits _ _ _ _ c.from_residual-in_err-low.result c.in_err-low.field-0.0 c.from_residual-in_err-low.ensures.1
+    (ToLeft (sym c.sees.ensures ∙ c.if-not-sees.false) (Then c.in_ok-skip.ensures.reads (FirstFails (FirstFails c.in_err-low.ensures.reads))))
+
+pub returns-in_err-skip-2-clause-reads : goal.returns-in_err-skip-2-clause-reads
+returns-in_err-skip-2-clause-reads c =
+    exits _ _ _ _ c.from_residual-in_err-skip-2.result c.in_err-skip-2.field-0.0 c.from_residual-in_err-skip-2.ensures.1
+    (ToLeft (sym c.sees.ensures ∙ c.if-not-sees.false) (Then c.in_ok-skip.ensures.reads (FirstFails (Then c.in_ok-low.ensures.reads (FirstFails c.in_err-skip-2.ensures.reads)))))
+
+pub returns-in_err-high-clause-reads : goal.returns-in_err-high-clause-reads
+returns-in_err-high-clause-reads c =
+    exits _ _ _ _ c.from_residual-in_err-high.result c.in_err-high.field-0.0 c.from_residual-in_err-high.ensures.1
+    (ToLeft (sym c.sees.ensures ∙ c.if-not-sees.false) (Then c.in_ok-skip.ensures.reads (FirstFails (Then c.in_ok-low.ensures.reads (Then c.in_ok-skip-2.ensures.reads c.in_err-high.ensures.reads)))))
+
+pub returns-in_err-skip-3-clause-reads : goal.returns-in_err-skip-3-clause-reads
+returns-in_err-skip-3-clause-reads c =
+    exits _ _ _ _ c.from_residual-in_err-skip-3.result c.in_err-skip-3.field-0.0 c.from_residual-in_err-skip-3.ensures.1
+    (ToLeft (sym c.sees.ensures ∙ c.if-not-sees.false) (Then c.in_ok-skip.ensures.reads (Then (Then c.in_ok-low.ensures.reads (Then c.in_ok-skip-2.ensures.reads c.in_ok-high.ensures.reads)) c.in_err-skip-3.ensures.reads)))
+
+pub returns-clause-reads : goal.returns-clause-reads
+returns-clause-reads c = ToLeft (sym c.sees.ensures ∙ c.if-not-sees.false) (Then c.in_ok-skip.ensures.reads (Then (Then c.in_ok-low.ensures.reads (Then c.in_ok-skip-2.ensures.reads c.in_ok-high.ensures.reads)) c.in_ok-skip-3.ensures.reads))

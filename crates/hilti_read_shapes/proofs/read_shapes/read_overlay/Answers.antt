@@ -1,0 +1,26 @@
+use Rattle.hilti_grammar.specs.Runs.{Runs.FirstFails, Runs.Then}
+use Rattle.hilti_reader.proofs.Exits.{exits}
+use Rattle.hilti_read_shapes.proofs.read_shapes.read_overlay.Goals as goal
+
+pub returns-in_err-place-clause-reads : goal.returns-in_err-place-clause-reads
+returns-in_err-place-clause-reads c =
+    exits _ _ _ _ c.from_residual.result c.in_err-place.field-0.0 c.from_residual.ensures.1
+    (FirstFails c.in_err-place.ensures.reads)
+
+pub returns-in_err-skip-clause-reads : goal.returns-in_err-skip-clause-reads
+returns-in_err-skip-clause-reads c =
+    exits _ _ _ _ c.from_residual-in_err-skip.result c.in_err-skip.field-0.0 c.from_residual-in_err-skip.ensures.1
+    (Then c.in_ok-place.ensures.reads (FirstFails c.in_err-skip.ensures.reads))
+
+pub returns-in_err-fields-clause-reads : goal.returns-in_err-fields-clause-reads
+returns-in_err-fields-clause-reads c =
+    exits _ _ _ _ c.from_residual-in_err-fields.result c.in_err-fields.field-0.0 c.from_residual-in_err-fields.ensures.1
+    (Then c.in_ok-place.ensures.reads (Then c.in_ok-skip.ensures.reads (FirstFails c.in_err-fields.ensures.reads)))
+
+pub returns-in_err-skip-2-clause-reads : goal.returns-in_err-skip-2-clause-reads
+returns-in_err-skip-2-clause-reads c =
+    exits _ _ _ _ c.from_residual-in_err-skip-2.result c.in_err-skip-2.field-0.0 c.from_residual-in_err-skip-2.ensures.1
+    (Then c.in_ok-place.ensures.reads (Then c.in_ok-skip.ensures.reads (Then c.in_ok-fields.ensures.reads c.in_err-skip-2.ensures.reads)))
+
+pub returns-clause-reads : goal.returns-clause-reads
+returns-clause-reads c = Then c.in_ok-place.ensures.reads (Then c.in_ok-skip.ensures.reads (Then c.in_ok-fields.ensures.reads c.in_ok-skip-2.ensures.reads))

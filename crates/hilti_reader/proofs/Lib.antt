@@ -1,0 +1,11 @@
+pub mod Among
+pub mod Chosen
+pub mod Exits
+pub mod Gathering
+pub mod Kept
+pub mod Marks
+pub mod Only
+pub mod Payloads
+pub mod Picking
+pub mod Repeating
+pub mod Taking

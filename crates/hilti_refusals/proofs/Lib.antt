@@ -1,0 +1,4 @@
+pub mod AtLeast
+pub mod Once
+pub mod Shallow
+pub mod ShallowDerives

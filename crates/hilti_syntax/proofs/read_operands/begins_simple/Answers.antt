@@ -1,9 +1,0 @@
-use Rattle.std.proofs.Common.{◌∙◌, sym}
-use Rattle.hilti_syntax.proofs.Operands.{begins_by_time, begins_by_others}
-use Rattle.hilti_syntax.proofs.read_operands.begins_simple.Goals as goal
-
-pub returns-then-sees : goal.returns-then-sees
-returns-then-sees c = sym (begins_by_time _ (sym c.sees.ensures ∙ c.if-sees.true))
-
-pub returns : goal.returns
-returns c = sym (begins_by_others _ _ (sym c.sees.ensures ∙ c.if-sees.false) (sym c.sees-2.ensures))

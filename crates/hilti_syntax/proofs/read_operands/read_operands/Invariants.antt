@@ -1,9 +1,0 @@
-use Rattle.std.proofs.Common.{◌≤◌, length}
-use Rattle.hilti_syntax.specs.Operands.{Collects}
-use Rattle.hilti_syntax.proofs.read_operands.read_operands.Given as goal
-
-abbrev pub invariant-operands : goal.invariant-operands
-invariant-operands l = Collects l.fn.cursor l.operands l.cursor × (length l.cursor ≤ length l.fn.cursor)
-
-abbrev pub decreases-operands : goal.decreases-operands
-decreases-operands l = length l.cursor

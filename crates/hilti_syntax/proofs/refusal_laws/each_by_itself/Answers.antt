@@ -1,5 +1,0 @@
-use Rattle.hilti_syntax.proofs.Splits.{each_by_itself}
-use Rattle.hilti_syntax.proofs.refusal_laws.each_by_itself.Goals as goal
-
-pub returns : goal.returns
-returns c = each_by_itself
