@@ -1,0 +1,5 @@
+use Rattle.hilti_typing.proofs.Objects as objects
+use Rattle.hilti_typing.proofs.laws.map_rows.Goals as goal
+
+pub returns : goal.returns
+returns c = objects.map_rows

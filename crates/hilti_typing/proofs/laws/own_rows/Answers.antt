@@ -1,0 +1,5 @@
+use Rattle.hilti_typing.proofs.Meeting as meeting
+use Rattle.hilti_typing.proofs.laws.own_rows.Goals as goal
+
+pub returns : goal.returns
+returns c = meeting.own_rows

@@ -1,0 +1,5 @@
+use Rattle.hilti_typing.proofs.Records as records
+use Rattle.hilti_typing.proofs.laws.struct_rows.Goals as goal
+
+pub returns : goal.returns
+returns c = records.struct_rows
