@@ -1,0 +1,6 @@
+pub mod Plays
+pub mod Mail
+pub mod Seats
+pub mod Moves
+pub mod Homecoming
+pub mod Rooms

@@ -1,0 +1,97 @@
+-- The seats, the threads at rest and those that are out, when a worker takes a thread and when it puts one back.
+use Rattle.std.proofs.Common.{◌≡◌, ℕ, ◌+◌, ◌<◌, ◌≤◌, ◌≢◌, ◌⊎◌, inl, inr, ◌↔◌, suc, Bool, true, false, cond, List, [], ◌∷◌, ◌++◌, length, Option, Some, None, refl, ap, sym, ◌∙◌, subst, arith, eqb, All, Contains}
+use Rattle.std.proofs.lemmas.Bool.{eqb-true, eqb-false, eq-eqb}
+use Rattle.std.proofs.lemmas.List.Elements.{All-weaker, Contains-append_left, Contains-push, Contains-push_cases}
+use Rattle.hilti_base.specs.declared.names.ThreadId.{ThreadId}
+use Rattle.hilti_core.specs.Sending.{put_at}
+use Rattle.hilti_core.specs.Machine.{Start}
+use Rattle.hilti_core.specs.Body.{Runs}
+use Rattle.hilti_core.specs.Core.{Running, Resident, Core}
+use Rattle.hilti_pool.specs.declared.seat.Away.{Away}
+use Rattle.hilti_pool.specs.declared.seat.Place.{Place}
+use Rattle.hilti_pool.specs.declared.seat.Place.TheVariants.{Fresh, Idle, Suspended, Out}
+use Rattle.hilti_pool.specs.declared.hall.Hall.{Hall}
+use Rattle.hilti_pool.specs.Hall.{Face, face, gone, back_home, Leaves, Wakes, ComesBack, IsResting, IsAtHome}
+use Rattle.hilti_pool.specs.Threads.{calls_of}
+
+pub calls_of-push : (r : ℕ) (started : List Start) (s : Start) → calls_of r (started ++ s ∷ []) ≡ calls_of r started + cond (eqb r s.receiver) 1 0
+calls_of-push r [] s = go (eqb r s.receiver)
+  where
+    go : (b : Bool) → cond b 1 0 ≡ 0 + cond b 1 0
+    go true = refl
+    go false = refl
+calls_of-push r (x ∷ started) s = go (eqb r x.receiver) (calls_of-push r started s)
+  where
+    go : (b : Bool) → calls_of r (started ++ s ∷ []) ≡ calls_of r started + cond (eqb r s.receiver) 1 0 →
+        cond b (suc (calls_of r (started ++ s ∷ []))) (calls_of r (started ++ s ∷ [])) ≡ cond b (suc (calls_of r started)) (calls_of r started) + cond (eqb r s.receiver) 1 0
+    go true e = omega (arith, e)
+    go false e = e
+
+pub calls_of-within : (r : ℕ) (started : List Start) → calls_of r started ≤ length started
+calls_of-within r [] = omega arith
+calls_of-within r (x ∷ started) = go (eqb r x.receiver) (calls_of-within r started)
+  where
+    go : (b : Bool) → calls_of r started ≤ length started → cond b (suc (calls_of r started)) (calls_of r started) ≤ suc (length started)
+    go true h = omega arith
+    go false h = omega arith
+
+module _ {V : Type 0} where
+  abbrev pub RestsAre : Hall V → Type 0
+  RestsAre hall = (r : ℕ) → Contains hall.resting.items r ↔ IsResting (face hall r).place
+
+  abbrev pub OutsAre : Hall V → Type 0
+  OutsAre hall = (worker : ℕ) (thread : ThreadId) → Contains hall.outs.items (record { worker = worker; thread = thread }) ↔ ((face hall thread.n).place ≡ Out worker)
+
+  -- a thread that isn't at rest needs no waking
+  pub already_awake : (hall : Hall V) (r : ℕ) → RestsAre hall → ¬ IsResting (face hall r).place → Wakes r hall.resting.items hall.resting.items
+  already_awake hall r h not x = (λ here. (here, λ is. not (subst (λ y. IsResting (face hall y).place) is ((h x).0 here))), λ both. both.0)
+
+  pub rests_left : (old new : Hall V) (worker : ℕ) (thread : ThreadId) (begun : ℕ) → Leaves worker thread begun old new → Wakes thread.n old.resting.items new.resting.items → RestsAre old → RestsAre new
+  rests_left old new worker thread begun l w h r = subst (λ x. Contains new.resting.items r ↔ IsResting x.place) (sym (l.faces r)) (go (eqb r thread.n) refl)
+    where
+      go : (b : Bool) → eqb r thread.n ≡ b → Contains new.resting.items r ↔ IsResting (cond b (gone worker begun (face old thread.n)) (face old r)).place
+      go true e = (λ here. ((w r).0 here).1 (eqb-true r thread.n e), λ x. absurd x)
+      go false e = (λ here. (h r).0 ((w r).0 here).0, λ x. (w r).1 ((h r).1 x, eqb-false r thread.n e))
+
+  out_same : (a b : ℕ) → Out {T = V} a ≡ Out b → a ≡ b
+  out_same a b e = cc
+
+  pub outs_left : (old new : Hall V) (worker : ℕ) (thread : ThreadId) (begun : ℕ) → Leaves worker thread begun old new → IsAtHome (face old thread.n).place → OutsAre old → OutsAre new
+  outs_left old new worker thread begun l home h w t =
+      subst (λ x. Contains new.outs.items me ↔ (x.place ≡ Out w)) (sym (l.faces t.n)) (subst (λ o. Contains o me ↔ ((put_at (face old) thread.n (gone worker begun (face old thread.n)) t.n).place ≡ Out w)) (sym l.outs) (go (eqb t.n thread.n) refl))
+    where
+      me : Away
+      me = record { worker = w; thread = t }
+
+      not_out : (x : ℕ) → (face old thread.n).place ≡ Out x → ⊥
+      not_out x is = subst IsAtHome is home
+
+      go : (b : Bool) → eqb t.n thread.n ≡ b →
+          Contains (old.outs.items ++ record { worker = worker; thread = thread } ∷ []) me ↔ ((cond b (gone worker begun (face old thread.n)) (face old t.n)).place ≡ Out w)
+      go true e = (λ here. elim (Contains-push_cases old.outs.items (record { worker = worker; thread = thread }) me here) [
+            inl before ↦ absurd (not_out w (subst (λ y. (face old y).place ≡ Out w) (eqb-true t.n thread.n e) ((h w t).0 before)))
+          | inr is ↦ ap (λ a. Out a.worker) is ],
+        λ is. subst (Contains (old.outs.items ++ record { worker = worker; thread = thread } ∷ [])) (same (out_same worker w is) (eqb-true t.n thread.n e)) (Contains-push old.outs.items (record { worker = worker; thread = thread })))
+        where
+          same : worker ≡ w → t.n ≡ thread.n → record { worker = worker; thread = thread } ≡ me
+          same a b = ap (λ x. record { worker = x; thread = thread }) a ∙ ap (λ x. record { worker = w; thread = record { n = x } }) (sym b)
+      go false e = (λ here. elim (Contains-push_cases old.outs.items (record { worker = worker; thread = thread }) me here) [
+            inl before ↦ (h w t).0 before
+          | inr is ↦ absurd (eqb-false t.n thread.n e (ap (λ a. a.thread.n) (sym is))) ],
+        λ is. Contains-append_left old.outs.items (record { worker = worker; thread = thread } ∷ []) me ((h w t).1 is))
+
+  pub outs_back : (old new : Hall V) (worker : ℕ) (thread : ThreadId) (place : Place V) → IsAtHome place →
+      ((r : ℕ) → (face new r).place ≡ (cond (eqb r thread.n) place (face old r).place)) →
+      ((w : ℕ) (t : ThreadId) → Contains new.outs.items (record { worker = w; thread = t }) ↔ (Contains old.outs.items (record { worker = w; thread = t }) × (w ≢ worker))) →
+      ((t : ThreadId) → (face old t.n).place ≡ Out worker → t.n ≡ thread.n) → (face old thread.n).place ≡ Out worker → OutsAre old → OutsAre new
+  outs_back old new worker thread place home places outs alone was h w t =
+      subst (λ x. Contains new.outs.items (record { worker = w; thread = t }) ↔ (x ≡ Out w)) (sym (places t.n)) (go (eqb t.n thread.n) refl)
+    where
+      go : (b : Bool) → eqb t.n thread.n ≡ b → Contains new.outs.items (record { worker = w; thread = t }) ↔ (cond b place (face old t.n).place ≡ Out w)
+      go true e = (λ here.
+          let both = (outs w t).0 here in
+          let there : (face old thread.n).place ≡ Out w = subst (λ y. (face old y).place ≡ Out w) (eqb-true t.n thread.n e) ((h w t).0 both.0) in
+          absurd (both.1 (out_same w worker (sym there ∙ was))),
+        λ is. absurd (subst IsAtHome is home))
+      go false e = (λ here. (h w t).0 ((outs w t).0 here).0,
+        λ is. (outs w t).1 ((h w t).1 is, λ same. eqb-false t.n thread.n e (alone t (is ∙ ap Out same))))

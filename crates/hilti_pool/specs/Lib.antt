@@ -1,0 +1,9 @@
+pub mod State
+pub mod Readiness
+pub mod Work
+pub mod Answers
+pub mod Entries
+pub mod Threads
+pub mod Most
+pub mod Hall
+pub mod Stands

@@ -1,0 +1,13 @@
+//! The virtual threads of a run: their inboxes and logs, who has which, and the journal of what was fed, taken and put.
+//! A pool stands for the core of its journal at every moment.
+#![tactic(auto)]
+
+mod entry;
+mod hall;
+mod job;
+mod pool;
+mod seat;
+
+pub use entry::Entry;
+pub use job::{Job, Taken};
+pub use pool::Pool;
