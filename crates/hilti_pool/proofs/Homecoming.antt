@@ -1,5 +1,5 @@
 -- What a pool keeps is kept when a worker puts a thread back.
-use Rattle.std.proofs.Common.{◌≡◌, ℕ, ◌+◌, ◌<◌, ◌≤◌, ◌≢◌, ◌⊎◌, inl, inr, ◌↔◌, zero, suc, Bool, true, false, cond, List, [], ◌∷◌, ◌++◌, length, map, drop, Option, Some, None, Contains, refl, ap, sym, ◌∙◌, subst, arith, eqb, All}
+use Rattle.std.proofs.Common.{◌≡◌, ℕ, ◌+◌, ◌<◌, ◌≤◌, ◌≢◌, ◌⊎◌, inl, inr, ◌↔◌, zero, suc, Bool, true, false, cond, List, [], ◌∷◌, ◌++◌, length, map, drop, Option, Some, None, Contains, refl, ap, sym, ◌∙◌, subst, arith, eqb, not, filter, All}
 use Rattle.std.proofs.lemmas.Bool.{eqb-true, eqb-false, eq-eqb}
 use Rattle.std.proofs.lemmas.List.{length_push}
 use Rattle.std.proofs.lemmas.List.Elements.{All-weaker, All-append, All-nil, All-cons, All-head, All-tail, Contains-push, Contains-push_cases, Contains-append_left}
@@ -26,7 +26,7 @@ use Rattle.hilti_pool.specs.Work.{IsDone}
 use Rattle.hilti_pool.specs.Stands.{MailStands, PlaceStands, SeatStands, HallStands, StandsFor}
 use Rattle.hilti_pool.proofs.Plays.{play_push, puts}
 use Rattle.hilti_pool.proofs.Mail.{mail_posts, posted-deliveries}
-use Rattle.hilti_pool.proofs.Seats.{RestsAre, outs_back}
+use Rattle.hilti_pool.proofs.Seats.{RestsAre, outs_back, outs_by}
 
 -- what is left of segments that end once ends once
 ends_drop : (xs : List Segment) (k : ℕ) (y : Segment) (ys : List Segment) → EndsOnce xs → drop k xs ≡ y ∷ ys → EndsOnce (y ∷ ys)
@@ -37,7 +37,7 @@ ends_drop (x ∷ []) (suc (suc k)) y ys e is = absurd cc
 ends_drop (x ∷ z ∷ xs) (suc k) y ys e is = ends_drop (z ∷ xs) k y ys e.1 is
 
 -- the last segment isn't yielded
-abbrev EndsAs : Segment → List Segment → Type 0
+abbrev pub EndsAs : Segment → List Segment → Type 0
 EndsAs segment [] = ¬ (segment.end ≡ Yielded)
 EndsAs segment (_ ∷ _) = segment.end ≡ Yielded
 
@@ -45,7 +45,7 @@ ends_as : (segment : Segment) (rest : List Segment) → EndsOnce (segment ∷ re
 ends_as segment [] e = e
 ends_as segment (x ∷ rest) e = e.0
 
-some_same : {A : Type 0} (x y : A) → Some x ≡ Some y → x ≡ y
+pub some_same : {A : Type 0} (x y : A) → Some x ≡ Some y → x ≡ y
 some_same x y e = cc
 
 module _ {V : Type 0} (effect : Effect) (sound : Call → Type 0) (runs : V → Runs) where
@@ -115,7 +115,7 @@ module _ {V : Type 0} (effect : Effect) (sound : Call → Type 0) (runs : V → 
       PlaceStands runs thread.n (after_segment (s.c.thread thread.n) d.running segment d.rest) place → IsAtHome place →
       ((r : ℕ) → face new r ≡ put_at (face old) thread.n (back_home place (lines segment.items) (face old thread.n)) r) → ((r : ℕ) → HasSeat old r → HasSeat new r) →
       All (HasSeat old) (receivers segment.items) → new.mail.items ≡ old.mail.items ++ posted_by segment.items →
-      ((w : ℕ) (t : ThreadId) → Contains new.outs.items (record { worker = w; thread = t }) ↔ (Contains old.outs.items (record { worker = w; thread = t }) × (w ≢ worker))) → RestsAre new →
+      new.outs.items ≡ filter (λ away. not (eqb away.worker worker)) old.outs.items → RestsAre new →
       StandsFor effect sound runs fed limit (journal ++ Put worker ∷ []) started segments new
   came_home fed limit journal started segments old new worker thread vt segment place s kept d stands home faces seats room mail outs rests = record {
     c = comes_home worker thread.n d.running segment d.rest s.c;
@@ -143,7 +143,7 @@ module _ {V : Type 0} (effect : Effect) (sound : Call → Type 0) (runs : V → 
           (All-weaker (λ posted. HasSeat old posted.to.n) (λ posted. HasSeat new posted.to.n) (λ posted. seats posted.to.n) old.mail.items h.settled)
           (All-weaker (λ posted. HasSeat old posted.to.n) (λ posted. HasSeat new posted.to.n) (λ posted. seats posted.to.n) (posted_by segment.items) (all_settled old segment.items room)));
       resting = rests;
-      outs = outs_back old new worker thread place home (λ r. ap (λ x. x.place) (faces r) ∙ split r (eqb r thread.n)) outs
+      outs = outs_back old new worker thread place home (λ r. ap (λ x. x.place) (faces r) ∙ split r (eqb r thread.n)) (outs_by worker old.outs.items new.outs.items outs)
           (λ t is. some_same t.n thread.n (sym (kept.seats.sits t.n worker (subst (PlaceStands runs t.n (s.c.thread t.n)) is (h.seats t.n).place).0) ∙ d.out))
           (was_out fed limit worker thread.n s.c old h kept d.out) h.outs;
     };

@@ -4,3 +4,4 @@ pub mod Seats
 pub mod Moves
 pub mod Homecoming
 pub mod Rooms
+pub mod Causes

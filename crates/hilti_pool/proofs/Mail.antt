@@ -118,7 +118,7 @@ cut h (w ∷ ws) (y ∷ front) x back e =
     let same : h w ≡ y = cc in
     record { before = w ∷ s.before; at = s.at; after = s.after; was = ap (λ l. w ∷ l) s.was; fronts = ap (λ l. h w ∷ l) s.fronts ∙ ap (λ z. z ∷ front) same; here = s.here; backs = s.backs }
 
-nothing_for : (r : ℕ) (ws : List Delivery) → NoneFor r (map posted_of ws) → inbox_in r ws ≡ []
+pub nothing_for : (r : ℕ) (ws : List Delivery) → NoneFor r (map posted_of ws) → inbox_in r ws ≡ []
 nothing_for r [] h = refl
 nothing_for r (w ∷ ws) h = go (eqb r w.to) refl
   where

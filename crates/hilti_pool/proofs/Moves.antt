@@ -2,7 +2,7 @@
 use Rattle.std.proofs.Common.{◌≡◌, ℕ, ◌+◌, ◌<◌, ◌≤◌, ◌≢◌, ◌↔◌, suc, Bool, true, false, cond, List, [], ◌∷◌, ◌++◌, length, map, drop, Option, Some, None, MatchOption, IsSome, Contains, refl, ap, sym, ◌∙◌, subst, arith, eqb, All, length-append}
 use Rattle.std.proofs.lemmas.Bool.{eqb-true, eqb-false, eq-eqb}
 use Rattle.std.proofs.lemmas.List.{length_push}
-use Rattle.std.proofs.lemmas.List.Elements.{All-weaker, All-push, All-head}
+use Rattle.std.proofs.lemmas.List.Elements.{All-nil, All-contains, All-weaker, All-push, All-head}
 use Rattle.std.specs.Ordering.{nat_cmp}
 use Rattle.std.specs.BTreeMap.{get}
 use Rattle.hilti_base.specs.declared.names.ThreadId.{ThreadId}
@@ -13,7 +13,7 @@ use Rattle.hilti_core.specs.Sending.{Effect, Sender.Capture, Letter, put_at}
 use Rattle.hilti_core.specs.Machine.{Start}
 use Rattle.hilti_core.specs.Atomic.{started_calls}
 use Rattle.hilti_core.specs.Body.{Runs}
-use Rattle.hilti_core.specs.Core.{Waiting, Running, Resident, Core, core, core_of_none, play, begins, goes_on}
+use Rattle.hilti_core.specs.Core.{Waiting, Running, Resident, Core, fresh, core, core_of_none, play, begins, goes_on}
 use Rattle.hilti_core.specs.Kept.{IsKept, IsSoundCore}
 use Rattle.hilti_core.proofs.Lists.{put_both}
 use Rattle.hilti_core.proofs.Moves.{fed_core}
@@ -22,7 +22,7 @@ use Rattle.hilti_pool.specs.declared.seat.Place.{Place}
 use Rattle.hilti_pool.specs.declared.seat.Place.TheVariants.{Fresh, Idle, Suspended, Out}
 use Rattle.hilti_pool.specs.declared.seat.Posted.{Posted}
 use Rattle.hilti_pool.specs.declared.hall.Hall.{Hall}
-use Rattle.hilti_pool.specs.Hall.{Face, face, face_of, gone, HasSeat, Grows, Leaves, Wakes, TakesFirst, IsResting, IsAtHome, WasIdle}
+use Rattle.hilti_pool.specs.Hall.{Face, face, face_of, seat_at, gone, HasSeat, Grows, Leaves, Wakes, TakesFirst, IsResting, IsAtHome, WasIdle}
 use Rattle.hilti_pool.specs.Work.{GoesOn, Begins}
 use Rattle.hilti_pool.specs.Stands.{Delivery, MailStands, PlaceStands, SeatStands, HallStands, StandsFor}
 use Rattle.hilti_pool.specs.Threads.{calls_of}
@@ -211,3 +211,64 @@ module _ {V : Type 0} (effect : Effect) (sound : Call → Type 0) (runs : V → 
 
       there : (r : ℕ) → HasSeat grown r → HasSeat new r
       there r x = subst (λ y. IsSome (get nat_cmp y r)) (sym seats) x
+
+  -- nothing happened yet
+  pub nothing_yet : (fed : List Call) (limit : ℕ) (journal : List Event) (hall : Hall V) → 1 ≤ limit → limit ≤ 100000000 → fed ≡ [] → journal ≡ [] → ((r : ℕ) → seat_at hall r ≡ None) →
+      hall.mail.items ≡ [] → hall.resting.items ≡ [] → hall.outs.items ≡ [] → StandsFor effect sound runs fed limit journal 0 0 hall
+  nothing_yet fed limit journal hall low high no_calls no_events seats mail resting outs =
+      subst (λ calls. StandsFor effect sound runs calls limit journal 0 0 hall) (sym no_calls) (subst (λ events. StandsFor effect sound runs [] limit events 0 0 hall) (sym no_events) (record {
+        c = core_of_none [];
+        is = refl;
+        unfed = refl;
+        sound_fed = All-nil sound;
+        low = low;
+        high = high;
+        started_are = refl;
+        takes_are = refl;
+        few_takes = omega arith;
+        hall_stands = record {
+          seats = λ r. subst (SeatStands runs [] r fresh) (sym (ap face_of (seats r))) (record { place = (refl, refl, refl); calls = refl; few = omega arith; log = refl });
+          mail = subst (MailStands (core_of_none [])) (sym mail) (record { deliveries = []; posted = refl; inboxes = λ to. refl; ordered = tt; below = All-nil (λ d. d.waiting.number < 0); count = refl });
+          settled = subst (All (λ posted. HasSeat hall posted.to.n)) (sym mail) (All-nil (λ posted. HasSeat hall posted.to.n));
+          resting = λ r. (λ here. absurd (empty_list r (subst (λ l. Contains l r) resting here)), λ x. absurd (subst IsResting (ap (λ x. x.place) (ap face_of (seats r))) x));
+          outs = λ w t. (λ here. absurd (empty_list (record { worker = w; thread = t }) (subst (λ l. Contains l (record { worker = w; thread = t })) outs here)),
+            λ is. absurd (let e = sym (ap (λ x. x.place) (ap face_of (seats t.n))) ∙ is in cc));
+        };
+      }))
+    where
+      empty_list : {A : Type 0} (x : A) → Contains [] x → ⊥
+      empty_list x h = All-contains (λ y. ⊥) [] x (All-nil (λ y. ⊥)) h
+
+  -- room alone was made
+  pub stays : (fed calls : List Call) (limit : ℕ) (journal events : List Event) (started segments : ℕ) (old new : Hall V) → StandsFor effect sound runs fed limit journal started segments old →
+      calls ≡ fed → events ≡ journal → Grows old new → StandsFor effect sound runs calls limit events started segments new
+  stays fed calls limit journal events started segments old new s same_calls same_events g =
+      subst (λ x. StandsFor effect sound runs x limit events started segments new) (sym same_calls) (subst (λ x. StandsFor effect sound runs fed limit x started segments new) (sym same_events) (record {
+        c = s.c;
+        is = s.is;
+        unfed = s.unfed;
+        sound_fed = s.sound_fed;
+        low = s.low;
+        high = s.high;
+        started_are = s.started_are;
+        takes_are = s.takes_are;
+        few_takes = s.few_takes;
+        hall_stands = record {
+          seats = λ r. subst (SeatStands runs s.c.started r (s.c.thread r)) (sym (g.faces r)) (s.hall_stands.seats r);
+          mail = subst (MailStands s.c) (sym g.mail) s.hall_stands.mail;
+          settled = subst (All (λ posted. HasSeat new posted.to.n)) (sym g.mail) (All-weaker (λ posted. HasSeat old posted.to.n) (λ posted. HasSeat new posted.to.n) (λ posted. g.seats posted.to.n) old.mail.items s.hall_stands.settled);
+          resting = λ r. subst (λ x. Contains new.resting.items r ↔ IsResting x.place) (sym (g.faces r)) (subst (λ x. Contains x r ↔ IsResting (face old r).place) (sym g.resting) (s.hall_stands.resting r));
+          outs = λ w t. subst (λ x. Contains new.outs.items (record { worker = w; thread = t }) ↔ (x.place ≡ Out w)) (sym (g.faces t.n))
+              (subst (λ x. Contains x (record { worker = w; thread = t }) ↔ ((face old t.n).place ≡ Out w)) (sym g.outs) (s.hall_stands.outs w t));
+        };
+      }))
+
+  -- a call was fed, by what each part of the pool is then
+  pub fed_on : (fed calls : List Call) (limit : ℕ) (journal noted events : List Event) (started segments : ℕ) (old grown new : Hall V) (call : Call) →
+      StandsFor effect sound runs fed limit journal started segments old → sound call → calls ≡ fed ++ call ∷ [] → noted ≡ journal → events ≡ noted ++ Feed ∷ [] →
+      Grows old grown → HasSeat grown 0 → new.seats ≡ grown.seats → new.resting ≡ grown.resting → new.outs ≡ grown.outs →
+      new.mail.items ≡ grown.mail.items ++ record { to = record { n = 0 }; call = call } ∷ [] → StandsFor effect sound runs calls limit events started segments new
+  fed_on fed calls limit journal noted events started segments old grown new call s is_sound a b c g seat seats resting outs mail =
+      subst (λ x. StandsFor effect sound runs x limit events started segments new) (sym a)
+      (subst (λ x. StandsFor effect sound runs (fed ++ call ∷ []) limit x started segments new) (sym (c ∙ ap (λ l. l ++ Feed ∷ []) b))
+      (was_fed fed limit journal started segments old grown new call s is_sound g seat seats resting outs mail))

@@ -1,5 +1,5 @@
 -- Room that was made stays, whatever room is made after it.
-use Rattle.std.proofs.Common.{◌≡◌, ℕ, ◌+◌, ◌≤◌, List, length, refl, sym, ◌∙◌, subst, arith, All, vec_len, vec_capacity}
+use Rattle.std.proofs.Common.{◌≡◌, ℕ, ◌+◌, ◌≤◌, List, length, Option, Some, None, IsSome, IfSome, option_map, refl, sym, ◌∙◌, subst, arith, All, vec_len, vec_capacity}
 use Rattle.std.proofs.lemmas.List.Elements.{All-weaker}
 use Rattle.std.specs.VecDeque.{deque_len, deque_capacity}
 use Rattle.hilti_core.specs.declared.pieces.Item.{Item}
@@ -48,3 +48,18 @@ module _ {V : Type 0} where
     logs = subst (λ l. All (λ away. HasLogRoom (length items) b away.thread.n) l) (sym g.outs)
         (All-weaker (λ away. HasLogRoom (length items) a away.thread.n) (λ away. HasLogRoom (length items) b away.thread.n) (λ away. g.logs (length items) away.thread.n) a.outs.items h.logs);
   }
+
+  -- the room that a pool has stays
+  pub rooms_stay : {X : Type 0} (value : X → List Item) (room : Option X) (a b : Hall V) (len cap new_len new_cap : ℕ) → Grows a b → new_len ≡ len → cap ≤ new_cap →
+      IfSome room (λ items. HasRoom (value items) a × (len + 1 ≤ cap)) → IfSome room (λ items. HasRoom (value items) b × (new_len + 1 ≤ new_cap))
+  rooms_stay value None a b len cap new_len new_cap g same more h = tt
+  rooms_stay value (Some items) a b len cap new_len new_cap g same more h = (room_stays (value items) a b g h.0, omega (arith, h.1, same, more))
+
+-- the room that a pool has told
+pub has_room : {X : Type 0} (value : X → List Item) (room : Option X) (P : X → Type 0) → IsSome (option_map value room) → IfSome room P → (x : X) × P x
+has_room value None P some h = absurd cc
+has_room value (Some x) P some h = (x, h)
+
+pub room_for : {X : Type 0} (value : X → List Item) (items : List Item) (room : Option X) (P : List Item → Type 0) → option_map value room ≡ Some items → IfSome room (λ x. P (value x)) → P items
+room_for value items None P is h = absurd cc
+room_for value items (Some x) P is h = subst P (let same : value x ≡ items = cc in same) h

@@ -1,7 +1,7 @@
 -- The seats, the threads at rest and those that are out, when a worker takes a thread and when it puts one back.
-use Rattle.std.proofs.Common.{◌≡◌, ℕ, ◌+◌, ◌<◌, ◌≤◌, ◌≢◌, ◌⊎◌, inl, inr, ◌↔◌, suc, Bool, true, false, cond, List, [], ◌∷◌, ◌++◌, length, Option, Some, None, refl, ap, sym, ◌∙◌, subst, arith, eqb, All, Contains}
+use Rattle.std.proofs.Common.{◌≡◌, ℕ, ◌+◌, ◌<◌, ◌≤◌, ◌≢◌, ◌⊎◌, inl, inr, ◌↔◌, suc, Bool, true, false, cond, List, [], ◌∷◌, ◌++◌, length, Option, Some, None, refl, ap, sym, ◌∙◌, subst, arith, eqb, not, filter, All, Contains}
 use Rattle.std.proofs.lemmas.Bool.{eqb-true, eqb-false, eq-eqb}
-use Rattle.std.proofs.lemmas.List.Elements.{All-weaker, Contains-append_left, Contains-push, Contains-push_cases}
+use Rattle.std.proofs.lemmas.List.Elements.{All-nil, All-cons, All-contains, Contains-append_left, Contains-append_right, Contains-append_cases, Contains-push, Contains-push_cases}
 use Rattle.hilti_base.specs.declared.names.ThreadId.{ThreadId}
 use Rattle.hilti_core.specs.Sending.{put_at}
 use Rattle.hilti_core.specs.Machine.{Start}
@@ -35,6 +35,63 @@ calls_of-within r (x ∷ started) = go (eqb r x.receiver) (calls_of-within r sta
     go true h = omega arith
     go false h = omega arith
 
+-- what a filter keeps are the elements that pass
+pub passing : {A : Type 0} (p : A → Bool) (xs : List A) (x : A) → Contains (filter p xs) x ↔ (Contains xs x × (p x ≡ true))
+passing {A} p xs x = (into xs, λ both. back xs both.0 both.1)
+  where
+    into : (ys : List A) → Contains (filter p ys) x → Contains ys x × (p x ≡ true)
+    into [] here = absurd (All-contains (λ y. ⊥) [] x (All-nil (λ y. ⊥)) here)
+    into (y ∷ ys) here = go (p y) refl here
+      where
+        later : Contains ys x × (p x ≡ true) → Contains (y ∷ ys) x × (p x ≡ true)
+        later both = (Contains-append_right (y ∷ []) ys x both.0, both.1)
+
+        go : (b : Bool) → p y ≡ b → Contains (cond b (y ∷ filter p ys) (filter p ys)) x → Contains (y ∷ ys) x × (p x ≡ true)
+        go false e h = later (into ys h)
+        go true e h = elim (Contains-append_cases (y ∷ []) (filter p ys) x h) [
+            inl first ↦ let is = same first in (subst (Contains (y ∷ ys)) is (Contains-append_left (y ∷ []) ys y (Contains-push [] y)), ap p (sym is) ∙ e)
+          | inr more ↦ later (into ys more) ]
+          where
+            same : Contains (y ∷ []) x → y ≡ x
+            same h = All-contains (λ z. y ≡ z) (y ∷ []) x (All-cons (λ z. y ≡ z) y [] refl (All-nil (λ z. y ≡ z))) h
+
+    back : (ys : List A) → Contains ys x → p x ≡ true → Contains (filter p ys) x
+    back [] here e = absurd (All-contains (λ y. ⊥) [] x (All-nil (λ y. ⊥)) here)
+    back (y ∷ ys) here e = elim (Contains-append_cases (y ∷ []) ys x here) [ inl first ↦ head (same first) | inr more ↦ tail (p y) (back ys more e) ]
+      where
+        same : Contains (y ∷ []) x → y ≡ x
+        same h = All-contains (λ z. y ≡ z) (y ∷ []) x (All-cons (λ z. y ≡ z) y [] refl (All-nil (λ z. y ≡ z))) h
+
+        head : y ≡ x → Contains (cond (p y) (y ∷ filter p ys) (filter p ys)) x
+        head is = subst (λ b. Contains (cond b (y ∷ filter p ys) (filter p ys)) x) (sym (ap p is ∙ e)) (subst (Contains (y ∷ filter p ys)) is (Contains-append_left (y ∷ []) (filter p ys) y (Contains-push [] y)))
+
+        tail : (b : Bool) → Contains (filter p ys) x → Contains (cond b (y ∷ filter p ys) (filter p ys)) x
+        tail true h = Contains-append_right (y ∷ []) (filter p ys) x h
+        tail false h = h
+
+other_than : (m n : ℕ) → (not (eqb m n) ≡ true) ↔ (m ≢ n)
+other_than m n = go (eqb m n) refl
+  where
+    go : (b : Bool) → eqb m n ≡ b → (not b ≡ true) ↔ (m ≢ n)
+    go true e = (λ h. absurd cc, λ h. absurd (h (eqb-true m n e)))
+    go false e = (λ h. eqb-false m n e, λ h. refl)
+
+-- a thread that is filtered out is awake
+pub wakes_by : (n : ℕ) (old new : List ℕ) → new ≡ filter (λ other. not (eqb other n)) old → Wakes n old new
+wakes_by n old new is r = subst (λ l. Contains l r ↔ (Contains old r × (r ≢ n))) (sym is) (
+    λ here. let both = (passing (λ other. not (eqb other n)) old r).0 here in (both.0, (other_than r n).0 both.1),
+    λ both. (passing (λ other. not (eqb other n)) old r).1 (both.0, (other_than r n).1 both.1))
+
+-- a worker that is filtered out has nothing
+pub outs_by : (worker : ℕ) (old new : List Away) → new ≡ filter (λ away. not (eqb away.worker worker)) old → (w : ℕ) (t : ThreadId) →
+    Contains new (record { worker = w; thread = t }) ↔ (Contains old (record { worker = w; thread = t }) × (w ≢ worker))
+outs_by worker old new is w t = subst (λ l. Contains l me ↔ (Contains old me × (w ≢ worker))) (sym is) (
+    λ here. let both = (passing (λ away. not (eqb away.worker worker)) old me).0 here in (both.0, (other_than w worker).0 both.1),
+    λ both. (passing (λ away. not (eqb away.worker worker)) old me).1 (both.0, (other_than w worker).1 both.1))
+  where
+    me : Away
+    me = record { worker = w; thread = t }
+
 module _ {V : Type 0} where
   abbrev pub RestsAre : Hall V → Type 0
   RestsAre hall = (r : ℕ) → Contains hall.resting.items r ↔ IsResting (face hall r).place
@@ -53,7 +110,10 @@ module _ {V : Type 0} where
       go true e = (λ here. ((w r).0 here).1 (eqb-true r thread.n e), λ x. absurd x)
       go false e = (λ here. (h r).0 ((w r).0 here).0, λ x. (w r).1 ((h r).1 x, eqb-false r thread.n e))
 
-  out_same : (a b : ℕ) → Out {T = V} a ≡ Out b → a ≡ b
+  abbrev out_of : ℕ → Place V
+  out_of a = Out a
+
+  out_same : (a b : ℕ) → out_of a ≡ out_of b → a ≡ b
   out_same a b e = cc
 
   pub outs_left : (old new : Hall V) (worker : ℕ) (thread : ThreadId) (begun : ℕ) → Leaves worker thread begun old new → IsAtHome (face old thread.n).place → OutsAre old → OutsAre new

@@ -1,5 +1,5 @@
 -- What the calls of a hall read and change: each thread's seat, by its number, and the room for more.
-use Rattle.std.specs.Prelude.{ℕ, ◌+◌, ◌<◌, ◌≤◌, ◌≢◌, Bool, true, false, List, [], ◌∷◌, ◌++◌, length, map, take, slice_get, Option, Some, None, ◌≡◌, ◌↔◌, ◌⊎◌, IsSome, IsSomeAnd, vec_len, vec_capacity}
+use Rattle.std.specs.Prelude.{ℕ, ◌+◌, ◌<◌, ◌≤◌, ◌≢◌, ◌==◌, Bool, true, false, not, filter, nat_lt, List, [], ◌∷◌, ◌++◌, length, map, take, slice_get, Option, Some, None, ◌≡◌, ◌↔◌, ◌⊎◌, IsSome, IsSomeAnd, vec_len, vec_capacity}
 use Rattle.std.specs.List.{All, Contains}
 use Rattle.std.specs.Ordering.{nat_cmp}
 use Rattle.std.specs.BTreeMap.{get}
@@ -13,7 +13,9 @@ use Rattle.hilti_pool.specs.declared.seat.Seat.{Seat}
 use Rattle.hilti_pool.specs.declared.seat.Place.{Place}
 use Rattle.hilti_pool.specs.declared.seat.Place.TheVariants.{Fresh, Idle, Suspended, Out}
 use Rattle.hilti_pool.specs.declared.seat.Posted.{Posted}
+use Rattle.hilti_pool.specs.declared.seat.Away.{Away}
 use Rattle.hilti_pool.specs.declared.hall.Hall.{Hall}
+use denote.Ref.{Bor}
 
 -- the calls that these items send, in order
 abbrev pub posted_by : List Item → List Posted
@@ -53,6 +55,23 @@ pub record TakesFirst (r : ℕ) (taken : Call) (old new : List Posted) : Type 0 
 -- the thread is no longer among those that are suspended at home
 abbrev pub Wakes : ℕ → List ℕ → List ℕ → Type 0
 Wakes thread old new = (r : ℕ) → Contains new r ↔ (Contains old r × (r ≢ thread))
+
+-- the worker has no thread
+abbrev pub HasNothing : ℕ → List Away → Type 0
+HasNothing worker outs = (thread : ThreadId) → ¬ Contains outs (record { worker = worker; thread = thread })
+
+-- the worker has this thread
+abbrev pub HasThread : ℕ → List Away → ThreadId → Type 0
+HasThread worker outs thread = Contains outs (record { worker = worker; thread = thread })
+
+-- what a log shows of a thread: its number, how many calls it started, and its lines
+pub record Seen : Type 0 where
+  pub thread : ℕ
+  pub calls : ℕ
+  pub log : List Text
+
+abbrev pub seen_of : ThreadId × ℕ × Bor (List Text) → Seen
+seen_of shown = record { thread = shown.0.n; calls = shown.1; log = shown.2.now }
 
 -- what is seen of a thread: where it is, how many calls it started, and its lines
 pub record Face (V : Type 0) : Type 0 where
@@ -122,7 +141,7 @@ module _ {V : Type 0} where
     pub seats : (r : ℕ) → HasSeat old r → HasSeat new r
     pub mail : new.mail.items ≡ old.mail.items ++ posted_by items
     pub resting : new.resting ≡ old.resting
-    pub outs : (w : ℕ) (t : ThreadId) → Contains new.outs.items (record { worker = w; thread = t }) ↔ (Contains old.outs.items (record { worker = w; thread = t }) × (w ≢ worker))
+    pub outs : new.outs.items ≡ filter (λ away. not (away.worker == worker)) old.outs.items
 
   -- the thread of this place isn't out
   abbrev pub IsAtHome : Place V → Type 0
@@ -157,3 +176,14 @@ module _ {V : Type 0} where
   abbrev pub WasIdle : Option V → Place V → Type 0
   WasIdle None place = place ≡ Fresh
   WasIdle (Some vt) place = place ≡ Idle vt
+
+  -- where one worker runs all: a thread at rest of least number, else that of the first call that waits
+  abbrev pub ComesFirst : Hall V → Option ThreadId → Type 0
+  ComesFirst hall None = (hall.resting.items ≡ []) × (hall.mail.items ≡ [])
+  ComesFirst hall (Some thread) =
+      (Contains hall.resting.items thread.n × All (λ other. thread.n ≤ other) hall.resting.items)
+          ⊎ ((hall.resting.items ≡ []) × ((first : Posted) × ((rest : List Posted) × (hall.mail.items ≡ first ∷ rest) × (first.to ≡ thread))))
+
+  -- the threads that started a call, by rising number
+  abbrev pub that_ran : Hall V → List Seen
+  that_ran hall = map (λ entry. record { thread = entry.0; calls = entry.1.calls; log = entry.1.log.items }) (filter (λ entry. nat_lt 0 entry.1.calls) hall.seats.entries)

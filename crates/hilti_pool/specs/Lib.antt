@@ -4,6 +4,5 @@ pub mod Work
 pub mod Answers
 pub mod Entries
 pub mod Threads
-pub mod Most
 pub mod Hall
 pub mod Stands

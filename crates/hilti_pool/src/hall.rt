@@ -1,9 +1,9 @@
-ghost use Rattle.std.specs.Prelude.{◌≡◌, ◌+◌, ◌<◌, ◌≤◌, ◌^◌, ◌↔◌, ℕ, [], ◌∷◌, ◌++◌, length, IsTrue, IsSome, IfSome, MatchOption, IfNone, None, OnOk, vec_len, vec_capacity};
+ghost use Rattle.std.specs.Prelude.{◌≡◌, ◌+◌, ◌<◌, ◌≤◌, ◌^◌, ◌↔◌, ℕ, [], ◌∷◌, ◌++◌, length, IsTrue, IsSome, IfSome, MatchOption, IfNone, None, MatchBool, option_map, slice_get, not, filter, ◌==◌, take, OnOk, vec_len, vec_capacity};
 ghost use Rattle.std.specs.List.{All, Contains};
 ghost use Rattle.std.specs.VecDeque.{deque_len, deque_capacity};
 ghost use Rattle.hilti_pool.specs.declared.seat.Place.TheVariants.{Suspended};
 ghost use Rattle.hilti_core.specs.Sending.{lines};
-ghost use Rattle.hilti_pool.specs.Hall.{face, seat_at, HasSeat, HasLogRoom, HasRoom, Grows, Leaves, Wakes, ComesBack, TakesFirst, posted_by, receivers, NoneFor, IsFirstFor, IsAtHome, IsResting, NoneAtHome, IsAwaited, MayGo, NoneMayGo, WasIdle};
+ghost use Rattle.hilti_pool.specs.Hall.{face, seat_at, HasSeat, HasLogRoom, HasRoom, Grows, Leaves, Wakes, ComesBack, TakesFirst, posted_by, receivers, NoneFor, IsFirstFor, IsAtHome, IsResting, NoneAtHome, IsAwaited, MayGo, NoneMayGo, WasIdle, HasNothing, HasThread, ComesFirst, that_ran, seen_of};
 
 use crate::seat::{Away, Place, Posted, Seat};
 use hilti_base::{Blob, NoMemory, ThreadId};
@@ -85,11 +85,20 @@ impl<T: Drop> Hall<T> {
         ensures seats { OnOk result (All (HasSeat self.new) (receivers items.now)) }
     {
         for item in items.as_slice() {
-            if let Item::Send { to, call: _ } = item {
-                self.settle(*to)?;
-            }
+            self.settle_receiver(item)?;
         }
         Ok(())
+    }
+
+    /// Makes a seat for the thread that the item sends a call to, if it does.
+    fn settle_receiver(&mut self, item: &Item) -> Result<(), NoMemory>
+        ensures grows { Grows self.old self.new }
+        ensures seats { OnOk result (All (HasSeat self.new) (receivers (item.now ∷ []))) }
+    {
+        match item {
+            Item::Send { to, call: _ } => self.settle(*to),
+            Item::Line { text: _ } => Ok(()),
+        }
     }
 
     /// Makes room for so many lines more in the log of each thread that is out.
@@ -134,9 +143,10 @@ impl<T: Drop> Hall<T> {
     fn first_at_home(&self) -> Option<ThreadId>
         ensures { MatchOption result (NoneAtHome self.now) (IsAwaited self.now) }
     {
-        for posted in self.mail.iter() {
-            if self.is_home(posted.to) {
-                return Some(posted.to);
+        for place in 0..self.mail.len() {
+            let thread = self.mail[place].to;
+            if self.is_home(thread) {
+                return Some(thread);
             }
         }
         None
@@ -162,9 +172,70 @@ impl<T: Drop> Hall<T> {
         ensures none { IfNone result (NoneFor thread.n self.now.mail.items) }
         ensures some { IfSome result (λ place. IsFirstFor thread.n self.now.mail.items place) }
     {
-        for (place, posted) in self.mail.iter().enumerate() {
-            if posted.to == thread {
+        for place in 0..self.mail.len() {
+            if self.mail[place].to.n == thread.n {
                 return Some(place);
+            }
+        }
+        None
+    }
+
+    /// Does a call wait for the thread?
+    pub(crate) fn has_mail(&self, thread: ThreadId) -> bool
+        ensures { MatchBool result (¬ NoneFor thread.n self.now.mail.items) (NoneFor thread.n self.now.mail.items) }
+    {
+        self.place_of(thread).is_some()
+    }
+
+    /// The thread that a worker has, if it has one.
+    pub(crate) fn out_at(&self, worker: u32) -> Option<ThreadId>
+        ensures { MatchOption result (HasNothing worker self.now.outs.items) (HasThread worker self.now.outs.items) }
+    {
+        for away in self.outs.as_slice() {
+            if away.worker == worker {
+                return Some(away.thread);
+            }
+        }
+        None
+    }
+
+    /// The thread of least number that is suspended at home, else the one that the first call waits for.
+    pub(crate) fn first_arrived(&self) -> Option<ThreadId>
+        ensures { ComesFirst self.now result }
+    {
+        match self.resting.iter().copied().min() {
+            Some(n) => Some(ThreadId { n }),
+            None => match self.mail.front() {
+                Some(posted) => Some(posted.to),
+                None => None,
+            },
+        }
+    }
+
+    /// How many threads started a call.
+    pub(crate) fn threads(&self) -> u64
+        ensures { result ≡ length (that_ran self.now) }
+    {
+        let mut count = 0;
+        for seat in self.seats.values() {
+            if seat.calls > 0 {
+                count += 1;
+            }
+        }
+        count
+    }
+
+    /// A thread, how many calls it started, and its lines, by its place among those that started a call.
+    pub(crate) fn log(&self, place: u64) -> Option<(ThreadId, u64, &[Blob])>
+        ensures { option_map seen_of result ≡ slice_get (that_ran self.now) place }
+    {
+        let mut left = place;
+        for (n, seat) in self.seats.iter() {
+            if seat.calls > 0 {
+                if left == 0 {
+                    return Some((ThreadId { n: *n }, seat.calls, seat.log.as_slice()));
+                }
+                left -= 1;
             }
         }
         None
@@ -172,7 +243,7 @@ impl<T: Drop> Hall<T> {
 
     /// Marks a thread as no longer suspended at home.
     fn wake(&mut self, thread: ThreadId)
-        ensures resting { Wakes thread.n self.old.resting.items self.new.resting.items }
+        ensures resting { self.new.resting.items ≡ filter (λ other. not (other == thread.n)) self.old.resting.items }
         ensures seats { self.new.seats ≡ self.old.seats }
         ensures mail { self.new.mail ≡ self.old.mail }
         ensures outs { self.new.outs ≡ self.old.outs }
@@ -321,18 +392,32 @@ fn deliver(items: Items, mail: &mut VecDeque<Posted>, log: &mut Vec<Blob>)
     ensures mail { mail.new.items ≡ mail.old.items ++ posted_by items }
     ensures log { log.new.items ≡ log.old.items ++ lines items }
 {
-    for item in items.into_vec() {
-        match item {
-            Item::Send { to, call } => {
-                let Ok(()) = mail.push_back(Posted { to, call }) else {
-                    unreachable!()
-                };
-            }
-            Item::Line { text } => {
-                let Ok(()) = log.push(text) else {
-                    unreachable!()
-                };
-            }
+    let mut left = items.into_vec();
+    left.reverse();
+    while let Some(item) = left.pop() {
+        deliver_one(item, mail, log);
+    }
+}
+
+/// Posts one item.
+fn deliver_one(item: Item, mail: &mut VecDeque<Posted>, log: &mut Vec<Blob>)
+    requires mail { deque_len mail.old + 1 ≤ deque_capacity mail.old }
+    requires log { vec_len log.old + 1 ≤ vec_capacity log.old }
+    ensures mail { mail.new.items ≡ mail.old.items ++ posted_by (item ∷ []) }
+    ensures log { log.new.items ≡ log.old.items ++ lines (item ∷ []) }
+    ensures mail_room { (deque_len mail.new ≤ deque_len mail.old + 1) × (deque_capacity mail.old ≤ deque_capacity mail.new) }
+    ensures log_room { (vec_len log.new ≤ vec_len log.old + 1) × (vec_capacity log.old ≤ vec_capacity log.new) }
+{
+    match item {
+        Item::Send { to, call } => {
+            let Ok(()) = mail.push_back(Posted { to, call }) else {
+                unreachable!()
+            };
+        }
+        Item::Line { text } => {
+            let Ok(()) = log.push(text) else {
+                unreachable!()
+            };
         }
     }
 }

@@ -6,7 +6,10 @@ mod entry;
 mod hall;
 mod job;
 mod pool;
+mod queries;
 mod seat;
+#[cfg(test)]
+mod tests;
 
 pub use entry::Entry;
 pub use job::{Job, Taken};

@@ -26,16 +26,14 @@ pub struct Pool<B: Body> {
     pub(crate) room: Option<Snapshot<Items>>,
     pub(crate) started: u64,
     pub(crate) segments: u64,
-    pub(crate) most: u64,
     pub(crate) hall: Hall<B::Vt>,
 }
 
 impl<B: Body> Model for Pool<B> {
-    ghost use Rattle.std.specs.Prelude.{◌≡◌, ◌+◌, ◌≤◌, Some, IfSome, vec_len, vec_capacity};
+    ghost use Rattle.std.specs.Prelude.{◌≡◌, ◌+◌, ◌≤◌, IfSome, vec_len, vec_capacity};
     ghost use Rattle.std.specs.Option.{option_map};
     ghost use Rattle.std.specs.Coded.{codes};
     ghost use Rattle.hilti_tree.specs.contracts.tree.Tree as trees;
-    ghost use Rattle.hilti_core.specs.Core.{core_of_none};
     ghost use Rattle.hilti_pool.specs.State.{PoolState};
 
     ghost Value = { PoolState B.Data };
@@ -44,7 +42,6 @@ impl<B: Body> Model for Pool<B> {
 
     ghost use Rattle.hilti_pool.specs.Hall.{HasRoom};
     ghost use Rattle.hilti_pool.specs.Stands.{StandsFor};
-    ghost use Rattle.hilti_pool.specs.Most.{most_from};
 
     ghost view = { λ a. record {
         about = B.facts a.body.value;
@@ -59,7 +56,6 @@ impl<B: Body> Model for Pool<B> {
     ghost invariant = { λ a.
         let about = B.facts a.body.value in
         StandsFor (B.effect about) (B.sound about) (B.runs about) a.fed a.limit a.journal.items a.started a.segments a.hall
-            × (a.most ≡ most_from (B.effect about) a.limit a.journal.items (Some (core_of_none a.fed)))
             × IfSome a.room (λ items. HasRoom items.value a.hall × (vec_len a.journal + 1 ≤ vec_capacity a.journal)) };
 }
 
@@ -88,7 +84,6 @@ impl<B: Body> Pool<B> {
             room: None,
             started: 0,
             segments: 0,
-            most: 0,
             hall: Hall::new(alloc),
         }
     }
@@ -104,7 +99,6 @@ impl<B: Body> Pool<B> {
         if let Err(error) = admitted {
             return Err((call, error));
         }
-        self.most = self.most.max(self.hall.mail.len() as u64);
         self.hall.post(ThreadId { n: 0 }, call);
         note(&mut self.journal, Event::Feed);
         self.room = None;
