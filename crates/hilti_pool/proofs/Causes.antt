@@ -20,7 +20,7 @@ use Rattle.hilti_pool.specs.Readiness.{IsHome, IsSuspended, HasMail, IsReady, No
 use Rattle.hilti_pool.specs.Hall.{Face, face, HasSeat, IsFor, NoneFor, IsResting, IsAtHome, NoneAtHome, IsAwaited, MayGo, NoneMayGo}
 use Rattle.hilti_pool.specs.Stands.{Delivery, posted_of, inbox_in, MailStands, PlaceStands, SeatStands, HallStands, StandsFor}
 use Rattle.hilti_pool.specs.Threads.{calls_of}
-use Rattle.hilti_pool.proofs.Seats.{calls_of-within}
+use Rattle.hilti_pool.proofs.Seats.{calls_of-within, only_one}
 use Rattle.hilti_pool.proofs.Mail.{nothing_for}
 use Rattle.hilti_pool.proofs.Homecoming.{was_out, some_same}
 
@@ -76,16 +76,13 @@ module _ {V : Type 0} where
 
   someone : (r : ℕ) (ws : List Delivery) (posted : Posted) → Contains (map posted_of ws) posted → posted.to.n ≡ r → ¬ (inbox_in r ws ≡ [])
   someone r [] posted here is none = in_nothing posted here
-  someone r (w ∷ ws) posted here is none = go (eqb r w.to) refl none
+  someone r (w ∷ ws) posted here is none = go (eqb r w.to) refl none (λ more x. someone r ws posted more is x)
     where
-      go : (b : Bool) → eqb r w.to ≡ b → cond b (w.waiting ∷ inbox_in r ws) (inbox_in r ws) ≡ [] → ⊥
-      go true e none = absurd cc
-      go false e none = elim (Contains-append_cases (posted_of w ∷ []) (map posted_of ws) posted here) [
-          inl first ↦ eqb-false r w.to e (sym (ap (λ x. x.to.n) (same first) ∙ is))
-        | inr more ↦ someone r ws posted more is none ]
-        where
-          same : Contains (posted_of w ∷ []) posted → posted_of w ≡ posted
-          same h = All-contains (λ z. posted_of w ≡ z) (posted_of w ∷ []) posted (All-cons (λ z. posted_of w ≡ z) (posted_of w) [] refl (All-nil (λ z. posted_of w ≡ z))) h
+      go : (b : Bool) → eqb r w.to ≡ b → cond b (w.waiting ∷ inbox_in r ws) (inbox_in r ws) ≡ [] → (Contains (map posted_of ws) posted → inbox_in r ws ≡ [] → ⊥) → ⊥
+      go true e none again = absurd cc
+      go false e none again = elim (Contains-append_cases (posted_of w ∷ []) (map posted_of ws) posted here) [
+          inl first ↦ eqb-false r w.to e (sym (ap (λ x. x.to.n) (only_one (posted_of w) posted first) ∙ is))
+        | inr more ↦ again more none ]
 
   pub mail_for : (runs : V → Runs) (c : Core) (hall : Hall V) (posted : Posted) → HallStands runs c hall → Contains hall.mail.items posted → HasMail c posted.to.n
   mail_for runs c hall posted h here none = someone posted.to.n h.mail.deliveries posted (subst (λ l. Contains l posted) (sym h.mail.posted) here) refl (sym (h.mail.inboxes posted.to.n) ∙ none)
@@ -162,11 +159,11 @@ pub record MayBegin {V : Type 0} (limit r : ℕ) (c : Core) (hall : Hall V) : Ty
 
 seat_for : {V : Type 0} (hall : Hall V) (r : ℕ) (ws : List Delivery) → All (λ posted. HasSeat hall posted.to.n) (map posted_of ws) → ¬ (inbox_in r ws ≡ []) → HasSeat hall r
 seat_for hall r [] h some = absurd (some refl)
-seat_for hall r (w ∷ ws) h some = go (eqb r w.to) refl some
+seat_for hall r (w ∷ ws) h some = go (eqb r w.to) refl some (λ x. seat_for hall r ws (All-tail (λ posted. HasSeat hall posted.to.n) (posted_of w) (map posted_of ws) h) x)
   where
-    go : (b : Bool) → eqb r w.to ≡ b → ¬ (cond b (w.waiting ∷ inbox_in r ws) (inbox_in r ws) ≡ []) → HasSeat hall r
-    go true e x = subst (HasSeat hall) (sym (eqb-true r w.to e)) (All-head (λ posted. HasSeat hall posted.to.n) (posted_of w) (map posted_of ws) h)
-    go false e x = seat_for hall r ws (All-tail (λ posted. HasSeat hall posted.to.n) (posted_of w) (map posted_of ws) h) x
+    go : (b : Bool) → eqb r w.to ≡ b → ¬ (cond b (w.waiting ∷ inbox_in r ws) (inbox_in r ws) ≡ []) → (¬ (inbox_in r ws ≡ []) → HasSeat hall r) → HasSeat hall r
+    go true e x again = subst (HasSeat hall) (sym (eqb-true r w.to e)) (All-head (λ posted. HasSeat hall posted.to.n) (posted_of w) (map posted_of ws) h)
+    go false e x again = again x
 
 pub may_begin : {V : Type 0} (effect : Effect) (sound : Call → Type 0) (runs : V → Runs) (fed : List Call) (limit : ℕ) (journal : List Event) (started segments : ℕ) (hall : Hall V) (r : ℕ) →
     (s : StandsFor effect sound runs fed limit journal started segments hall) → IsReady limit s.c r → ¬ IsResting (face hall r).place → MayBegin limit r s.c hall

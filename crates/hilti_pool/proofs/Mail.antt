@@ -120,11 +120,11 @@ cut h (w ∷ ws) (y ∷ front) x back e =
 
 pub nothing_for : (r : ℕ) (ws : List Delivery) → NoneFor r (map posted_of ws) → inbox_in r ws ≡ []
 nothing_for r [] h = refl
-nothing_for r (w ∷ ws) h = go (eqb r w.to) refl
+nothing_for r (w ∷ ws) h = go (eqb r w.to) refl (nothing_for r ws (All-tail (λ posted. ¬ IsFor r posted) (posted_of w) (map posted_of ws) h))
   where
-    go : (b : Bool) → eqb r w.to ≡ b → cond b (w.waiting ∷ inbox_in r ws) (inbox_in r ws) ≡ []
-    go true e = absurd (All-head (λ posted. ¬ IsFor r posted) (posted_of w) (map posted_of ws) h (sym (eqb-true r w.to e)))
-    go false e = nothing_for r ws (All-tail (λ posted. ¬ IsFor r posted) (posted_of w) (map posted_of ws) h)
+    go : (b : Bool) → eqb r w.to ≡ b → inbox_in r ws ≡ [] → cond b (w.waiting ∷ inbox_in r ws) (inbox_in r ws) ≡ []
+    go true e later = absurd (All-head (λ posted. ¬ IsFor r posted) (posted_of w) (map posted_of ws) h (sym (eqb-true r w.to e)))
+    go false e later = later
 
 pub without : {A : Type 0} (P : A → Type 0) (before : List A) (x : A) (after : List A) → All P (before ++ x ∷ after) → All P (before ++ after)
 without P [] x after h = All-tail P x after h

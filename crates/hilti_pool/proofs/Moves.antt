@@ -1,5 +1,5 @@
 -- What a pool keeps is kept by each event.
-use Rattle.std.proofs.Common.{◌≡◌, ℕ, ◌+◌, ◌<◌, ◌≤◌, ◌≢◌, ◌↔◌, suc, Bool, true, false, cond, List, [], ◌∷◌, ◌++◌, length, map, drop, Option, Some, None, MatchOption, IsSome, Contains, refl, ap, sym, ◌∙◌, subst, arith, eqb, All, length-append}
+use Rattle.std.proofs.Common.{◌≡◌, ℕ, ◌+◌, ◌<◌, ◌≤◌, ◌≢◌, ◌↔◌, zero, suc, Bool, true, false, cond, List, [], ◌∷◌, ◌++◌, length, map, drop, Option, Some, None, MatchOption, IsSome, Contains, refl, ap, sym, ◌∙◌, subst, arith, eqb, All, length-append}
 use Rattle.std.proofs.lemmas.Bool.{eqb-true, eqb-false, eq-eqb}
 use Rattle.std.proofs.lemmas.List.{length_push}
 use Rattle.std.proofs.lemmas.List.Elements.{All-nil, All-contains, All-weaker, All-push, All-head}
@@ -28,7 +28,7 @@ use Rattle.hilti_pool.specs.Stands.{Delivery, MailStands, PlaceStands, SeatStand
 use Rattle.hilti_pool.specs.Threads.{calls_of}
 use Rattle.hilti_pool.proofs.Plays.{play_push, feeds, goes, starts}
 use Rattle.hilti_pool.proofs.Mail.{mail_posts, Heads, mail_starts, without}
-use Rattle.hilti_pool.proofs.Seats.{already_awake, rests_left, outs_left, calls_of-push, calls_of-within}
+use Rattle.hilti_pool.proofs.Seats.{already_awake, rests_left, outs_left, one_if, calls_of-push, calls_of-within}
 
 module _ {V : Type 0} (effect : Effect) (sound : Call → Type 0) (runs : V → Runs) where
   -- a thread that isn't at home can't be out, and so on: what a place at home says
@@ -158,7 +158,7 @@ module _ {V : Type 0} (effect : Effect) (sound : Call → Type 0) (runs : V → 
       go r true e = record {
         place = (refl, (record { call = heads.head.message.call; given = 0 }, refl));
         calls = let same : r ≡ thread.n = eqb-true r thread.n e in
-            let one : cond (eqb r thread.n) 1 0 ≡ 1 = ap (λ b. cond b 1 0) e in
+            let one : one_if (eqb r thread.n) ≡ suc zero = ap one_if e in
             let here : calls_of thread.n s.c.started ≡ calls_of r s.c.started = ap (λ x. calls_of x s.c.started) (sym same) in
             omega (arith, calls_of-push r s.c.started start, one, here, seat.calls);
         few = let a = idle_few (s.c.thread thread.n).finished (s.c.thread thread.n).running (face old thread.n).calls at.1 seat.few in
@@ -168,7 +168,7 @@ module _ {V : Type 0} (effect : Effect) (sound : Call → Type 0) (runs : V → 
       }
       go r false e = record {
         place = (h.seats r).place;
-        calls = let none : cond (eqb r thread.n) 1 0 ≡ 0 = ap (λ b. cond b 1 0) e in omega (arith, calls_of-push r s.c.started start, none, (h.seats r).calls);
+        calls = let none : one_if (eqb r thread.n) ≡ zero = ap one_if e in omega (arith, calls_of-push r s.c.started start, none, (h.seats r).calls);
         few = (h.seats r).few;
         log = (h.seats r).log;
       }

@@ -14,15 +14,18 @@ use Rattle.hilti_pool.specs.declared.hall.Hall.{Hall}
 use Rattle.hilti_pool.specs.Hall.{Face, face, gone, back_home, Leaves, Wakes, ComesBack, IsResting, IsAtHome}
 use Rattle.hilti_pool.specs.Threads.{calls_of}
 
-pub calls_of-push : (r : ℕ) (started : List Start) (s : Start) → calls_of r (started ++ s ∷ []) ≡ calls_of r started + cond (eqb r s.receiver) 1 0
+abbrev pub one_if : Bool → ℕ
+one_if b = cond b 1 0
+
+pub calls_of-push : (r : ℕ) (started : List Start) (s : Start) → calls_of r (started ++ s ∷ []) ≡ calls_of r started + one_if (eqb r s.receiver)
 calls_of-push r [] s = go (eqb r s.receiver)
   where
-    go : (b : Bool) → cond b 1 0 ≡ 0 + cond b 1 0
+    go : (b : Bool) → one_if b ≡ 0 + one_if b
     go true = refl
     go false = refl
 calls_of-push r (x ∷ started) s = go (eqb r x.receiver) (calls_of-push r started s)
   where
-    go : (b : Bool) → calls_of r (started ++ s ∷ []) ≡ calls_of r started + cond (eqb r s.receiver) 1 0 →
+    go : (b : Bool) → calls_of r (started ++ s ∷ []) ≡ calls_of r started + one_if (eqb r s.receiver) →
         cond b (suc (calls_of r (started ++ s ∷ []))) (calls_of r (started ++ s ∷ [])) ≡ cond b (suc (calls_of r started)) (calls_of r started) + cond (eqb r s.receiver) 1 0
     go true e = omega (arith, e)
     go false e = e
@@ -35,39 +38,37 @@ calls_of-within r (x ∷ started) = go (eqb r x.receiver) (calls_of-within r sta
     go true h = omega arith
     go false h = omega arith
 
+pub only_one : {A : Type 0} (y x : A) → Contains (y ∷ []) x → y ≡ x
+only_one y x h = All-contains (λ z. y ≡ z) (y ∷ []) x (All-cons (λ z. y ≡ z) y [] refl (All-nil (λ z. y ≡ z))) h
+
+passing_into : {A : Type 0} (p : A → Bool) (x : A) (ys : List A) → Contains (filter p ys) x → Contains ys x × (p x ≡ true)
+passing_into p x [] here = absurd (All-contains (λ y. ⊥) [] x (All-nil (λ y. ⊥)) here)
+passing_into {A} p x (y ∷ ys) here = go (p y) refl here (λ h. passing_into p x ys h)
+  where
+    later : Contains ys x × (p x ≡ true) → Contains (y ∷ ys) x × (p x ≡ true)
+    later both = (Contains-append_right (y ∷ []) ys x both.0, both.1)
+
+    first_is : y ≡ x → p y ≡ true → Contains (y ∷ ys) x × (p x ≡ true)
+    first_is is e = (subst (Contains (y ∷ ys)) is (Contains-append_left (y ∷ []) ys y (Contains-push [] y)), ap p (sym is) ∙ e)
+
+    go : (b : Bool) → p y ≡ b → Contains (cond b (y ∷ filter p ys) (filter p ys)) x → (Contains (filter p ys) x → Contains ys x × (p x ≡ true)) → Contains (y ∷ ys) x × (p x ≡ true)
+    go false e h again = later (again h)
+    go true e h again = elim (Contains-append_cases (y ∷ []) (filter p ys) x h) [ inl first ↦ first_is (only_one y x first) e | inr more ↦ later (again more) ]
+
+passing_back : {A : Type 0} (p : A → Bool) (x : A) (ys : List A) → Contains ys x → p x ≡ true → Contains (filter p ys) x
+passing_back p x [] here e = absurd (All-contains (λ y. ⊥) [] x (All-nil (λ y. ⊥)) here)
+passing_back {A} p x (y ∷ ys) here e = elim (Contains-append_cases (y ∷ []) ys x here) [ inl first ↦ head (only_one y x first) | inr more ↦ tail (p y) (passing_back p x ys more e) ]
+  where
+    head : y ≡ x → Contains (cond (p y) (y ∷ filter p ys) (filter p ys)) x
+    head is = subst (λ b. Contains (cond b (y ∷ filter p ys) (filter p ys)) x) (sym (ap p is ∙ e)) (subst (Contains (y ∷ filter p ys)) is (Contains-append_left (y ∷ []) (filter p ys) y (Contains-push [] y)))
+
+    tail : (b : Bool) → Contains (filter p ys) x → Contains (cond b (y ∷ filter p ys) (filter p ys)) x
+    tail true h = Contains-append_right (y ∷ []) (filter p ys) x h
+    tail false h = h
+
 -- what a filter keeps are the elements that pass
 pub passing : {A : Type 0} (p : A → Bool) (xs : List A) (x : A) → Contains (filter p xs) x ↔ (Contains xs x × (p x ≡ true))
-passing {A} p xs x = (into xs, λ both. back xs both.0 both.1)
-  where
-    into : (ys : List A) → Contains (filter p ys) x → Contains ys x × (p x ≡ true)
-    into [] here = absurd (All-contains (λ y. ⊥) [] x (All-nil (λ y. ⊥)) here)
-    into (y ∷ ys) here = go (p y) refl here
-      where
-        later : Contains ys x × (p x ≡ true) → Contains (y ∷ ys) x × (p x ≡ true)
-        later both = (Contains-append_right (y ∷ []) ys x both.0, both.1)
-
-        go : (b : Bool) → p y ≡ b → Contains (cond b (y ∷ filter p ys) (filter p ys)) x → Contains (y ∷ ys) x × (p x ≡ true)
-        go false e h = later (into ys h)
-        go true e h = elim (Contains-append_cases (y ∷ []) (filter p ys) x h) [
-            inl first ↦ let is = same first in (subst (Contains (y ∷ ys)) is (Contains-append_left (y ∷ []) ys y (Contains-push [] y)), ap p (sym is) ∙ e)
-          | inr more ↦ later (into ys more) ]
-          where
-            same : Contains (y ∷ []) x → y ≡ x
-            same h = All-contains (λ z. y ≡ z) (y ∷ []) x (All-cons (λ z. y ≡ z) y [] refl (All-nil (λ z. y ≡ z))) h
-
-    back : (ys : List A) → Contains ys x → p x ≡ true → Contains (filter p ys) x
-    back [] here e = absurd (All-contains (λ y. ⊥) [] x (All-nil (λ y. ⊥)) here)
-    back (y ∷ ys) here e = elim (Contains-append_cases (y ∷ []) ys x here) [ inl first ↦ head (same first) | inr more ↦ tail (p y) (back ys more e) ]
-      where
-        same : Contains (y ∷ []) x → y ≡ x
-        same h = All-contains (λ z. y ≡ z) (y ∷ []) x (All-cons (λ z. y ≡ z) y [] refl (All-nil (λ z. y ≡ z))) h
-
-        head : y ≡ x → Contains (cond (p y) (y ∷ filter p ys) (filter p ys)) x
-        head is = subst (λ b. Contains (cond b (y ∷ filter p ys) (filter p ys)) x) (sym (ap p is ∙ e)) (subst (Contains (y ∷ filter p ys)) is (Contains-append_left (y ∷ []) (filter p ys) y (Contains-push [] y)))
-
-        tail : (b : Bool) → Contains (filter p ys) x → Contains (cond b (y ∷ filter p ys) (filter p ys)) x
-        tail true h = Contains-append_right (y ∷ []) (filter p ys) x h
-        tail false h = h
+passing p xs x = (passing_into p x xs, λ both. passing_back p x xs both.0 both.1)
 
 other_than : (m n : ℕ) → (not (eqb m n) ≡ true) ↔ (m ≢ n)
 other_than m n = go (eqb m n) refl
