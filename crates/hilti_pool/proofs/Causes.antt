@@ -16,7 +16,7 @@ use Rattle.hilti_pool.specs.declared.seat.Place.TheVariants.{Fresh, Idle, Suspen
 use Rattle.hilti_pool.specs.declared.seat.Posted.{Posted}
 use Rattle.hilti_pool.specs.declared.hall.Hall.{Hall}
 use Rattle.hilti_pool.specs.State.{PoolState, core_of, InCore}
-use Rattle.hilti_pool.specs.Readiness.{IsHome, IsSuspended, HasMail, IsReady, NoneReady, SomeOut, NoneOut, SomeMail, NoMail}
+use Rattle.hilti_pool.specs.Readiness.{IsHome, IsSuspended, HasMail, IsReady, NoneReady, SomeOut, NoneOut, SomeMail, NoMail, HasWaiting}
 use Rattle.hilti_pool.specs.Hall.{Face, face, HasSeat, IsFor, NoneFor, IsResting, IsAtHome, NoneAtHome, IsAwaited, MayGo, NoneMayGo}
 use Rattle.hilti_pool.specs.Stands.{Delivery, posted_of, inbox_in, MailStands, PlaceStands, SeatStands, HallStands, StandsFor}
 use Rattle.hilti_pool.specs.Threads.{calls_of}
@@ -37,6 +37,16 @@ in_nothing x h = All-contains (λ y. ⊥) [] x (All-nil (λ y. ⊥)) h
 
 in_some : {A : Type 0} (xs : List A) (x : A) → Contains xs x → ¬ (xs ≡ [])
 in_some xs x h none = in_nothing x (subst (λ l. Contains l x) none h)
+
+someone : (r : ℕ) (ws : List Delivery) (posted : Posted) → Contains (map posted_of ws) posted → posted.to.n ≡ r → ¬ (inbox_in r ws ≡ [])
+someone r [] posted here is none = in_nothing posted here
+someone r (w ∷ ws) posted here is none = go (eqb r w.to) refl none (λ more x. someone r ws posted more is x)
+  where
+    go : (b : Bool) → eqb r w.to ≡ b → cond b (w.waiting ∷ inbox_in r ws) (inbox_in r ws) ≡ [] → (Contains (map posted_of ws) posted → inbox_in r ws ≡ [] → ⊥) → ⊥
+    go true e none again = absurd cc
+    go false e none again = elim (Contains-append_cases (posted_of w ∷ []) (map posted_of ws) posted here) [
+        inl first ↦ eqb-false r w.to e (sym (ap (λ x. x.to.n) (only_one (posted_of w) posted first) ∙ is))
+      | inr more ↦ again more none ]
 
 module _ {V : Type 0} where
   -- a place at home is that of a thread at home
@@ -73,16 +83,6 @@ module _ {V : Type 0} where
   -- a thread whose inbox isn't empty is one that some mail is for
   pub no_mail_for : (runs : V → Runs) (c : Core) (hall : Hall V) (r : ℕ) → HallStands runs c hall → NoneFor r hall.mail.items → c.inbox r ≡ []
   no_mail_for runs c hall r h none = h.mail.inboxes r ∙ nothing_for r h.mail.deliveries (subst (NoneFor r) (sym h.mail.posted) none)
-
-  someone : (r : ℕ) (ws : List Delivery) (posted : Posted) → Contains (map posted_of ws) posted → posted.to.n ≡ r → ¬ (inbox_in r ws ≡ [])
-  someone r [] posted here is none = in_nothing posted here
-  someone r (w ∷ ws) posted here is none = go (eqb r w.to) refl none (λ more x. someone r ws posted more is x)
-    where
-      go : (b : Bool) → eqb r w.to ≡ b → cond b (w.waiting ∷ inbox_in r ws) (inbox_in r ws) ≡ [] → (Contains (map posted_of ws) posted → inbox_in r ws ≡ [] → ⊥) → ⊥
-      go true e none again = absurd cc
-      go false e none again = elim (Contains-append_cases (posted_of w ∷ []) (map posted_of ws) posted here) [
-          inl first ↦ eqb-false r w.to e (sym (ap (λ x. x.to.n) (only_one (posted_of w) posted first) ∙ is))
-        | inr more ↦ again more none ]
 
   pub mail_for : (runs : V → Runs) (c : Core) (hall : Hall V) (posted : Posted) → HallStands runs c hall → Contains hall.mail.items posted → HasMail c posted.to.n
   mail_for runs c hall posted h here none = someone posted.to.n h.mail.deliveries posted (subst (λ l. Contains l posted) (sym h.mail.posted) here) refl (sym (h.mail.inboxes posted.to.n) ∙ none)
@@ -181,3 +181,11 @@ may_begin effect sound runs fed limit journal started segments hall r s ready no
       few = m.2;
       calls = omega (arith, few_calls effect sound runs fed limit journal started segments hall r s, s.started_are, m.2, s.high);
     }
+
+length-posted : (ws : List Delivery) → length (map posted_of ws) ≡ length ws
+length-posted [] = refl
+length-posted (w ∷ ws) = ap suc (length-posted ws)
+
+-- as many calls wait as there is mail
+pub waiting_are : {V : Type 0} (runs : V → Runs) (c : Core) (hall : Hall V) (n : ℕ) → HallStands runs c hall → n ≡ length hall.mail.items → HasWaiting c n
+waiting_are runs c hall n h is = omega (arith, h.mail.count, is, length-posted h.mail.deliveries, ap length h.mail.posted)

@@ -69,13 +69,13 @@ module _ {V : Type 0} (effect : Effect) (sound : Call → Type 0) (runs : V → 
   -- the place at home that the virtual thread has then
   pub idle_after : (r : ℕ) (resident : Resident) (running : Running) (segment : Segment) (rest : List Segment) (vt : V) → EndsAs segment rest → ¬ (segment.end ≡ Yielded) →
       runs vt r (finished_after resident.finished running rest) (running_after running rest) → PlaceStands runs r (after_segment resident running segment rest) (Idle vt)
-  idle_after r resident running segment [] vt e no it = (refl, refl, it)
-  idle_after r resident running segment (x ∷ rest) vt e no it = absurd (no e)
+  idle_after r resident running segment [] vt e other it = (refl, refl, it)
+  idle_after r resident running segment (x ∷ rest) vt e other it = absurd (other e)
 
   pub suspended_after : (r : ℕ) (resident : Resident) (running : Running) (segment : Segment) (rest : List Segment) (vt : V) → EndsAs segment rest → segment.end ≡ Yielded →
       runs vt r (finished_after resident.finished running rest) (running_after running rest) → PlaceStands runs r (after_segment resident running segment rest) (Suspended vt)
-  suspended_after r resident running segment [] vt e yes it = absurd (e yes)
-  suspended_after r resident running segment (x ∷ rest) vt e yes it = (refl, (record { call = running.call; given = suc running.given }, refl, it))
+  suspended_after r resident running segment [] vt e yielded it = absurd (e yielded)
+  suspended_after r resident running segment (x ∷ rest) vt e yielded it = (refl, (record { call = running.call; given = suc running.given }, refl, it))
 
   few_after : (finished : List Call) (before : Option Running) (running : Running) (rest : List Segment) (n : ℕ) → before ≡ Some running → length (started_calls finished before) ≤ n →
       length (started_calls (finished_after finished running rest) (running_after running rest)) ≤ n
@@ -92,11 +92,11 @@ module _ {V : Type 0} (effect : Effect) (sound : Call → Type 0) (runs : V → 
   -- the threads at rest are those before, and one that is suspended now
   pub rests_idle : (old new : Hall V) (r : ℕ) (place : Place V) (more : List Text) → ¬ IsResting place → ¬ IsResting (face old r).place →
       ((x : ℕ) → face new x ≡ put_at (face old) r (back_home place more (face old r)) x) → new.resting.items ≡ old.resting.items → RestsAre old → RestsAre new
-  rests_idle old new r place more no not faces same h x =
+  rests_idle old new r place more awake out faces same h x =
       subst (λ y. Contains new.resting.items x ↔ IsResting y.place) (sym (faces x)) (subst (λ l. Contains l x ↔ IsResting (put_at (face old) r (back_home place more (face old r)) x).place) (sym same) (go (eqb x r) refl))
     where
       go : (b : Bool) → eqb x r ≡ b → Contains old.resting.items x ↔ IsResting (cond b (back_home place more (face old r)) (face old x)).place
-      go true e = (λ here. absurd (not (subst (λ y. IsResting (face old y).place) (eqb-true x r e) ((h x).0 here))), λ y. absurd (no y))
+      go true e = (λ here. absurd (out (subst (λ y. IsResting (face old y).place) (eqb-true x r e) ((h x).0 here))), λ y. absurd (awake y))
       go false e = h x
 
   pub rests_suspended : (old new : Hall V) (r : ℕ) (vt : V) (more : List Text) →
