@@ -5,3 +5,7 @@ pub mod Moves
 pub mod Homecoming
 pub mod Rooms
 pub mod Causes
+pub mod Items
+pub mod Returns
+pub mod Findings
+pub mod Fits

@@ -2,8 +2,8 @@ ghost use Rattle.std.specs.Prelude.{◌≡◌, ◌+◌, ◌<◌, ◌≤◌, ◌^
 ghost use Rattle.std.specs.List.{All, Contains};
 ghost use Rattle.std.specs.VecDeque.{deque_len, deque_capacity};
 ghost use Rattle.hilti_pool.specs.declared.seat.Place.TheVariants.{Suspended};
-ghost use Rattle.hilti_core.specs.Sending.{lines};
-ghost use Rattle.hilti_pool.specs.Hall.{face, seat_at, HasSeat, HasLogRoom, HasRoom, Grows, Leaves, Wakes, ComesBack, TakesFirst, posted_by, receivers, NoneFor, IsFirstFor, IsAtHome, IsResting, NoneAtHome, IsAwaited, MayGo, NoneMayGo, WasIdle, HasNothing, HasThread, ComesFirst, that_ran, seen_of};
+ghost use Rattle.hilti_core.specs.Sending.{lines, put_at};
+ghost use Rattle.hilti_pool.specs.Hall.{face, back_home, seat_at, HasSeat, HasLogRoom, HasRoom, Grows, Leaves, Wakes, ComesBack, TakesFirst, posted_by, receivers, NoneFor, IsFirstFor, IsAtHome, IsResting, NoneAtHome, IsAwaited, MayGo, NoneMayGo, WasIdle, HasNothing, HasThread, ComesFirst, that_ran, seen_of};
 
 use crate::seat::{Away, Place, Posted, Seat};
 use hilti_base::{Blob, NoMemory, ThreadId};
@@ -340,12 +340,25 @@ impl<T: Drop> Hall<T> {
         requires out { Contains self.old.outs.items (record { worker = worker; thread = thread }) }
         ensures { ComesBack worker thread place items (lines items) self.old self.new }
     {
+        self.arrive(thread, place, items);
+        self.outs.retain(|away| away.worker != worker);
+    }
+
+    /// The thread is at home at this place, and its items are posted.
+    fn arrive(&mut self, thread: ThreadId, place: Place<T>, items: Items)
+        requires mail { deque_len self.old.mail + length items ≤ deque_capacity self.old.mail }
+        requires log { HasLogRoom (length items) self.old thread.n }
+        ensures faces { (r : ℕ) → face self.new r ≡ put_at (face self.old) thread.n (back_home place (lines items) (face self.old thread.n)) r }
+        ensures seats { (r : ℕ) → HasSeat self.old r → HasSeat self.new r }
+        ensures mail { self.new.mail.items ≡ self.old.mail.items ++ posted_by items }
+        ensures resting { self.new.resting ≡ self.old.resting }
+        ensures outs { self.new.outs ≡ self.old.outs }
+    {
         let Some(seat) = self.seats.get_mut(&thread.n) else {
             unreachable!()
         };
         deliver(items, &mut self.mail, &mut seat.log);
         seat.place = place;
-        self.outs.retain(|away| away.worker != worker);
     }
 
     /// Marks a thread as suspended at home.

@@ -1,6 +1,6 @@
 use Rattle.std.proofs.Common.{◌≡◌}
 use Rattle.hilti_pool.proofs.Causes.{shows}
-use Rattle.hilti_pool.proofs.queries.Pool.segments.Goals as goal
+use Rattle.hilti_pool.proofs.pool.Pool.segments.Goals as goal
 
 pub returns : goal.returns
 returns g c =

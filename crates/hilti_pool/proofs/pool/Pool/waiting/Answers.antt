@@ -1,7 +1,7 @@
 use Rattle.std.proofs.Common.{◌∙◌}
 use Rattle.hilti_pool.specs.Readiness.{HasWaiting}
 use Rattle.hilti_pool.proofs.Causes.{shows, waiting_are}
-use Rattle.hilti_pool.proofs.queries.Pool.waiting.Goals as goal
+use Rattle.hilti_pool.proofs.pool.Pool.waiting.Goals as goal
 
 pub returns : goal.returns
 returns g c =

@@ -1,6 +1,6 @@
 use Rattle.std.proofs.Common.{length, ◌≡◌}
 use Rattle.hilti_pool.proofs.Causes.{shows}
-use Rattle.hilti_pool.proofs.queries.Pool.started.Goals as goal
+use Rattle.hilti_pool.proofs.pool.Pool.started.Goals as goal
 
 pub returns : goal.returns
 returns g c =
