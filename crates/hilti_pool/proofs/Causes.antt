@@ -32,7 +32,7 @@ told effect Q pool shown c is here x = subst (Q pool) (some_same x.core c (sym x
 pub shows : {D : Type 0} (effect : D → Effect) (Q : PoolState D → Core → Type 0) (pool shown : PoolState D) (c : Core) → pool ≡ shown → core_of effect pool ≡ Some c → Q pool c → InCore effect shown (Q shown)
 shows effect Q pool shown c is here q = record { core = c; is = sym (ap (core_of effect) is) ∙ here; holds = subst (λ p. Q p c) is q }
 
-in_nothing : {A : Type 0} (x : A) → Contains [] x → ⊥
+pub in_nothing : {A : Type 0} (x : A) → Contains [] x → ⊥
 in_nothing x h = All-contains (λ y. ⊥) [] x (All-nil (λ y. ⊥)) h
 
 in_some : {A : Type 0} (xs : List A) (x : A) → Contains xs x → ¬ (xs ≡ [])

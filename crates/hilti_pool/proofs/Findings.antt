@@ -1,5 +1,8 @@
 -- What a worker that finds no thread ready can tell of the core.
-use Rattle.std.proofs.Common.{◌≡◌, ℕ, ◌<◌, ◌⊎◌, inl, inr, Bool, true, List, [], length, Option, None, IsSome}
+use Rattle.std.proofs.Common.{◌≡◌, ℕ, ◌<◌, ◌⊎◌, inl, inr, Bool, true, List, [], length, Option, None, IsSome, false, ◌∷◌, eqb, ap, sym, ◌∙◌, arith}
+use Rattle.std.proofs.lemmas.Bool.{eqb-true, eqb-false}
+use Rattle.std.proofs.lemmas.Bool.Decides.{nat_tests}
+use Rattle.std.specs.Prelude.{nat_lt}
 use Rattle.hilti_tree.specs.declared.call.Call.{Call}
 use Rattle.hilti_core.specs.declared.event.Event.{Event}
 use Rattle.hilti_core.specs.Sending.{Effect}
@@ -37,3 +40,18 @@ module _ {V : Type 0} (effect : Effect) (sound : Call → Type 0) (runs : V → 
   all_done s may ended allowed none out mail end =
       let kept = kept_of effect sound runs segments_of fed limit journal started segments hall s in
       (none_ready runs s.c hall may limit s.hall_stands allowed none, none_out runs fed limit s.c hall s.hall_stands kept.0 out, no_mail runs s.c hall s.hall_stands mail, end)
+
+-- whether a call may start
+pub may_start : (n m limit : ℕ) → n ≡ m → m < limit → nat_lt n limit ≡ true
+may_start n m limit is few = grind (arith, nat_tests)
+
+pub may_started : (n m limit : ℕ) → n ≡ m → nat_lt n limit ≡ true → m < limit
+may_started n m limit is may = grind (arith, nat_tests)
+
+-- what a test for none left tells
+pub none_there : {A : Type 0} (b : Bool) (n : ℕ) (xs : List A) → b ≡ eqb n 0 → n ≡ length xs → b ≡ true → xs ≡ []
+none_there b n [] is len yes = refl
+none_there b n (x ∷ xs) is len yes = let none = eqb-true n 0 (sym is ∙ yes) in absurd (omega (arith, none, len))
+
+pub some_there : {A : Type 0} (b : Bool) (n : ℕ) (xs : List A) → b ≡ eqb n 0 → n ≡ length xs → b ≡ false → ¬ (xs ≡ [])
+some_there b n xs is len no none = eqb-false n 0 (sym is ∙ no) (len ∙ ap length none)

@@ -9,3 +9,4 @@ pub mod Items
 pub mod Returns
 pub mod Findings
 pub mod Fits
+pub mod Telling

@@ -1,13 +1,15 @@
-ghost use Rattle.std.specs.Prelude.{◌≡◌, ◌+◌, ◌<◌, ◌≤◌, ◌^◌, ◌↔◌, ℕ, [], ◌∷◌, ◌++◌, length, IsTrue, IsSome, IfSome, MatchOption, IfNone, None, MatchBool, option_map, slice_get, not, filter, ◌==◌, take, OnOk, vec_len, vec_capacity};
+ghost use Rattle.std.specs.Prelude.{◌≡◌, ◌+◌, ◌<◌, ◌≤◌, ◌^◌, ◌↔◌, ℕ, [], ◌∷◌, ◌++◌, length, IsTrue, IsSome, IfSome, MatchOption, IfNone, None, MatchBool, not, filter, ◌==◌, take, OnOk, vec_len, vec_capacity};
 ghost use Rattle.std.specs.List.{All, Contains};
 ghost use Rattle.std.specs.VecDeque.{deque_len, deque_capacity};
-ghost use Rattle.hilti_pool.specs.declared.seat.Place.TheVariants.{Suspended};
+ghost use Rattle.hilti_pool.specs.declared.seat.Place.TheVariants.{Idle, Suspended};
+ghost use Rattle.hilti_core.specs.declared.pieces.End.TheVariants.{Yielded};
 ghost use Rattle.hilti_core.specs.Sending.{lines, put_at};
-ghost use Rattle.hilti_pool.specs.Hall.{face, back_home, seat_at, HasSeat, HasLogRoom, HasRoom, Grows, Leaves, Wakes, ComesBack, TakesFirst, posted_by, receivers, NoneFor, IsFirstFor, IsAtHome, IsResting, NoneAtHome, IsAwaited, MayGo, NoneMayGo, WasIdle, HasNothing, HasThread, ComesFirst, that_ran, seen_of};
+ghost use Rattle.hilti_pool.specs.ComingHome.{ComesToRest};
+ghost use Rattle.hilti_pool.specs.Hall.{face, back_home, seat_at, HasSeat, HasLogRoom, HasRoom, Grows, Leaves, Wakes, ComesBack, TakesFirst, posted_by, receivers, NoneFor, IsFirstFor, IsAtHome, IsResting, NoneAtHome, IsAwaited, MayGo, NoneMayGo, WasIdle, HasNothing, HasThread, ComesFirst};
 
 use crate::seat::{Away, Place, Posted, Seat};
 use hilti_base::{Blob, NoMemory, ThreadId};
-use hilti_core::{Item, Items};
+use hilti_core::{End, Item, Items};
 use hilti_tree::Call;
 use std::alloc::Global;
 use std::collections::{BTreeMap, VecDeque};
@@ -212,35 +214,6 @@ impl<T: Drop> Hall<T> {
         }
     }
 
-    /// How many threads started a call.
-    pub(crate) fn threads(&self) -> u64
-        ensures { result ≡ length (that_ran self.now) }
-    {
-        let mut count = 0;
-        for seat in self.seats.values() {
-            if seat.calls > 0 {
-                count += 1;
-            }
-        }
-        count
-    }
-
-    /// A thread, how many calls it started, and its lines, by its place among those that started a call.
-    pub(crate) fn log(&self, place: u64) -> Option<(ThreadId, u64, &[Blob])>
-        ensures { option_map seen_of result ≡ slice_get (that_ran self.now) place }
-    {
-        let mut left = place;
-        for (n, seat) in self.seats.iter() {
-            if seat.calls > 0 {
-                if left == 0 {
-                    return Some((ThreadId { n: *n }, seat.calls, seat.log.as_slice()));
-                }
-                left -= 1;
-            }
-        }
-        None
-    }
-
     /// Marks a thread as no longer suspended at home.
     fn wake(&mut self, thread: ThreadId)
         ensures resting { self.new.resting.items ≡ filter (λ other. not (other == thread.n)) self.old.resting.items }
@@ -334,8 +307,24 @@ impl<T: Drop> Hall<T> {
         std::mem::replace(&mut seat.place, Place::Out { worker })
     }
 
+    /// The worker's thread comes home with its virtual thread, suspended if its segment was yielded, and its items are
+    /// posted.
+    pub(crate) fn give_back(&mut self, worker: u32, thread: ThreadId, vt: T, items: Items, end: End)
+        requires room { HasRoom items self.old }
+        requires out { Contains self.old.outs.items (record { worker = worker; thread = thread }) }
+        ensures yielded { end ≡ Yielded → ComesToRest worker thread vt items (lines items) self.old self.new }
+        ensures ended { ¬ (end ≡ Yielded) → ComesBack worker thread (Idle vt) items (lines items) self.old self.new }
+    {
+        if end != End::Yielded {
+            self.come_home(worker, thread, Place::Idle(vt), items);
+            return;
+        }
+        self.come_home(worker, thread, Place::Suspended(vt), items);
+        self.rest(thread);
+    }
+
     /// The worker's thread comes home to this place, and its items are posted.
-    pub(crate) fn come_home(&mut self, worker: u32, thread: ThreadId, place: Place<T>, items: Items)
+    fn come_home(&mut self, worker: u32, thread: ThreadId, place: Place<T>, items: Items)
         requires room { HasRoom items self.old }
         requires out { Contains self.old.outs.items (record { worker = worker; thread = thread }) }
         ensures { ComesBack worker thread place items (lines items) self.old self.new }
@@ -362,7 +351,7 @@ impl<T: Drop> Hall<T> {
     }
 
     /// Marks a thread as suspended at home.
-    pub(crate) fn rest(&mut self, thread: ThreadId)
+    fn rest(&mut self, thread: ThreadId)
         requires { vec_len self.old.resting + 1 ≤ vec_capacity self.old.resting }
         ensures resting { self.new.resting.items ≡ self.old.resting.items ++ thread.n ∷ [] }
         ensures seats { self.new.seats ≡ self.old.seats }

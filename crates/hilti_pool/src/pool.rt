@@ -4,9 +4,8 @@ ghost use Rattle.hilti_pool.specs.Hall.{HasSeat, Grows};
 
 use crate::hall::Hall;
 use crate::job::{Job, Taken};
-use crate::seat::Place;
 use hilti_base::{NoMemory, ThreadId};
-use hilti_core::{Body, End, Event, Items, Segment};
+use hilti_core::{Body, Event, Items, Segment};
 use hilti_tree::{Call, Calls, copy_call};
 use std::alloc::Global;
 use std::marker::Model;
@@ -187,12 +186,7 @@ impl<B: Body> Pool<B> {
         ensures { self.new ≡ after_put worker self.old }
     {
         let Segment { items, end } = segment;
-        if end == End::Yielded {
-            self.hall.come_home(worker, thread, Place::Suspended(vt), items);
-            self.hall.rest(thread);
-        } else {
-            self.hall.come_home(worker, thread, Place::Idle(vt), items);
-        }
+        self.hall.give_back(worker, thread, vt, items, end);
         note(&mut self.journal, Event::Put { worker });
         self.room = None;
     }

@@ -1,16 +1,15 @@
 use crate::entry::Entry;
 use crate::pool::Pool;
-use hilti_base::{Blob, ThreadId};
+use hilti_base::ThreadId;
 use hilti_core::{Body, Event};
 use hilti_tree::Calls;
 use hilti_turn::Journalled;
 
 impl<B: Body> Pool<B> {
-    ghost use Rattle.std.specs.Prelude.{◌≡◌, ◌↔◌, length, IsTrue, IfSome, slice_get, Some, None};
+    ghost use Rattle.std.specs.Prelude.{◌≡◌, ◌↔◌, length, IsTrue, Some, None};
     ghost use Rattle.std.specs.Option.{option_map};
     ghost use Rattle.hilti_pool.specs.State.{InCore};
     ghost use Rattle.hilti_pool.specs.Readiness.{IsReady, IsFirst, HasWaiting};
-    ghost use Rattle.hilti_pool.specs.Threads.{threads_of, TellsThread};
 
     /// The thread that goes on where one worker runs all: the suspended one of least number, else the one whose waiting
     /// call was posted first; `None` exactly where none is suspended and nothing waits. It takes no memory.
@@ -78,22 +77,6 @@ impl<B: Body> Pool<B> {
         ensures { InCore B.effect self.now (λ c. HasWaiting c result) }
     {
         self.hall.mail.len() as u64
-    }
-
-    /// How many threads started a call.
-    pub fn threads(&self) -> u64
-        ensures { InCore B.effect self.now (λ c. result ≡ length (threads_of c.started)) }
-    {
-        self.hall.threads()
-    }
-
-    /// A thread, how many calls it started, and its lines, by its place from 0 among those that started a call, by
-    /// rising number; `None` exactly past the end. It takes no memory.
-    pub fn log(&self, place: u64) -> Option<(ThreadId, u64, &[Blob])>
-        ensures place { InCore B.effect self.now (λ c. option_map (λ told. told.0.n) result ≡ slice_get (threads_of c.started) place) }
-        ensures told { InCore B.effect self.now (λ c. IfSome result (λ told. TellsThread c told.0.n told.1 told.2.now)) }
-    {
-        self.hall.log(place)
     }
 }
 

@@ -50,20 +50,6 @@ fn turn(pool: &mut Pool<Countdown>, alloc: Global, worker: u32, thread: u64) -> 
     Ok(())
 }
 
-fn assert_log<R: Abort>(rt: &R, pool: &Pool<Countdown>, place: u64, thread: u64, calls: u64, lines: &[&[u8]]) {
-    match pool.log(place) {
-        Some((id, count, log)) => {
-            assert_eq!(rt; id.n, thread);
-            assert_eq!(rt; count, calls);
-            assert_eq!(rt; log.len(), lines.len());
-            for at in 0..lines.len() {
-                assert_eq!(rt; log[at].bytes(), lines[at]);
-            }
-        }
-        None => assert!(rt; false, "no thread"),
-    }
-}
-
 /// The journal `feed, feed, take 1 0, put 1, take 1 0, put 1, take 2 2, take 1 0, put 1, put 2, ..` over the calls on 2
 /// and 0, as in the test of the body alone.
 #[test]
@@ -98,11 +84,6 @@ fn a_journal_by_hand(rt: HostRuntime) -> Result<(), Fail> {
     assert_eq!(rt; pool.started(), 4);
     assert_eq!(rt; pool.segments(), 8);
     assert_eq!(rt; pool.waiting(), 0);
-    assert_eq!(rt; pool.threads(), 3);
-    assert_log(&rt, &pool, 0, 0, 2, &[b"2", b"0"]);
-    assert_log(&rt, &pool, 1, 1, 1, &[b"0"]);
-    assert_log(&rt, &pool, 2, 2, 1, &[b"1"]);
-    assert!(rt; pool.log(3).is_none());
     assert_eq!(rt; pool.journal().len(), 18);
     assert_eq!(rt; pool.count(), 19);
     assert_eq!(rt; pool.journal()[2], Event::Take { worker: 1, thread: ThreadId { n: 0 } });
