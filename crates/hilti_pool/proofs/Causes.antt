@@ -45,8 +45,9 @@ someone r (w ∷ ws) posted here is none = go (eqb r w.to) refl none (λ more x.
     go : (b : Bool) → eqb r w.to ≡ b → cond b (w.waiting ∷ inbox_in r ws) (inbox_in r ws) ≡ [] → (Contains (map posted_of ws) posted → inbox_in r ws ≡ [] → ⊥) → ⊥
     go true e none again = absurd cc
     go false e none again = elim (Contains-append_cases (posted_of w ∷ []) (map posted_of ws) posted here) [
-        inl first ↦ eqb-false r w.to e (sym (ap (λ x. x.to.n) (only_one (posted_of w) posted first) ∙ is))
-      | inr more ↦ again more none ]
+      | inl first ↦ eqb-false r w.to e (sym (ap (λ x. x.to.n) (only_one (posted_of w) posted first) ∙ is))
+      | inr more ↦ again more none
+    ]
 
 module _ {V : Type 0} where
   -- a place at home is that of a thread at home
@@ -98,8 +99,11 @@ module _ {V : Type 0} where
   pub is_ready : (runs : V → Runs) (c : Core) (hall : Hall V) (may : Bool) (limit : ℕ) (thread : ThreadId) → HallStands runs c hall → (may ≡ true → length c.started < limit) → MayGo may hall thread → IsReady limit c thread.n
   is_ready runs c hall may limit thread h allowed (inl here) = inl (suspended_in runs c hall thread.n h ((h.resting thread.n).0 here))
   is_ready runs c hall may limit thread h allowed (inr waits) =
-      inr (from_home runs thread.n (c.thread thread.n) (face hall thread.n).place (h.seats thread.n).place waits.1.0,
-      subst (λ t. HasMail c t.n) waits.1.1.2 (mail_for runs c hall waits.1.1.0 h waits.1.1.1), allowed waits.0)
+      inr (
+        from_home runs thread.n (c.thread thread.n) (face hall thread.n).place (h.seats thread.n).place waits.1.0,
+        subst (λ t. HasMail c t.n) waits.1.1.2 (mail_for runs c hall waits.1.1.0 h waits.1.1.1),
+        allowed waits.0,
+      )
 
   pub some_out : (runs : V → Runs) (fed : List Call) (limit : ℕ) (c : Core) (hall : Hall V) → HallStands runs c hall → IsKept fed limit c → ¬ (hall.outs.items ≡ []) → SomeOut c
   some_out runs fed limit c hall h kept some = go hall.outs.items refl
@@ -109,8 +113,14 @@ module _ {V : Type 0} where
 
       go : (l : List Away) → hall.outs.items ≡ l → SomeOut c
       go [] e = absurd (some e)
-      go (away ∷ more) e = (away.worker, (away.thread.n, from_out away.thread.n away.worker (face hall away.thread.n).place (h.seats away.thread.n).place
-          ((h.outs away.worker away.thread).0 (subst (λ l. Contains l away) (sym e) (Contains-append_left (away ∷ []) more away (Contains-push [] away))))))
+      go (away ∷ more) e = (
+        away.worker,
+        (
+          away.thread.n,
+          from_out away.thread.n away.worker (face hall away.thread.n).place (h.seats away.thread.n).place
+              ((h.outs away.worker away.thread).0 (subst (λ l. Contains l away) (sym e) (Contains-append_left (away ∷ []) more away (Contains-push [] away)))),
+        ),
+      )
 
   pub none_out : (runs : V → Runs) (fed : List Call) (limit : ℕ) (c : Core) (hall : Hall V) → HallStands runs c hall → IsKept fed limit c → hall.outs.items ≡ [] → NoneOut c
   none_out runs fed limit c hall h kept none worker = go (c.out worker) refl

@@ -106,8 +106,10 @@ module _ {V : Type 0} (effect : Effect) (sound : Call → Type 0) (runs : V → 
     where
       go : (b : Bool) → eqb x r ≡ b → Contains (old.resting.items ++ r ∷ []) x ↔ IsResting (cond b (back_home (Suspended vt) more (face old r)) (face old x)).place
       go true e = (λ here. tt, λ y. subst (Contains (old.resting.items ++ r ∷ [])) (sym (eqb-true x r e)) (Contains-push old.resting.items r))
-      go false e = (λ here. elim (Contains-push_cases old.resting.items r x here) [ inl before ↦ (h x).0 before | inr is ↦ absurd (eqb-false x r e (sym is)) ],
-        λ y. Contains-append_left old.resting.items (r ∷ []) x ((h x).1 y))
+      go false e = (
+        λ here. elim (Contains-push_cases old.resting.items r x here) [ inl before ↦ (h x).0 before | inr is ↦ absurd (eqb-false x r e (sym is)) ],
+        λ y. Contains-append_left old.resting.items (r ∷ []) x ((h x).1 y),
+      )
 
   -- a worker put its thread back
   pub came_home : (fed : List Call) (limit : ℕ) (journal : List Event) (started segments : ℕ) (old new : Hall V) (worker : ℕ) (thread : ThreadId) (vt : V) (segment : Segment) (place : Place V) →

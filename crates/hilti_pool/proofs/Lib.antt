@@ -7,6 +7,4 @@ pub mod Rooms
 pub mod Causes
 pub mod Items
 pub mod Returns
-pub mod Findings
-pub mod Fits
 pub mod Telling

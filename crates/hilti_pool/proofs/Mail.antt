@@ -65,9 +65,10 @@ ordered-deliveries s n (letter ∷ more) = (late s n (suc n) more (omega arith),
 ordered-append : (ws : List Delivery) (s : Sender) (n : ℕ) (sent : List Letter) → AreInOrder ws → All (λ w. w.waiting.number < n) ws → AreInOrder (ws ++ deliveries_of s n sent)
 ordered-append [] s n sent o h = ordered-deliveries s n sent
 ordered-append (w ∷ ws) s n sent o h =
-    let first : w.waiting.number < n = All-head (λ w. w.waiting.number < n) w ws h in
-    (All-append (λ later. w.waiting.number ≤ later.waiting.number) ws (deliveries_of s n sent) o.0 (late s w.waiting.number n sent (omega arith)),
-    ordered-append ws s n sent o.1 (All-tail (λ w. w.waiting.number < n) w ws h))
+    let first : w.waiting.number < n = All-head (λ w. w.waiting.number < n) w ws h in (
+      All-append (λ later. w.waiting.number ≤ later.waiting.number) ws (deliveries_of s n sent) o.0 (late s w.waiting.number n sent (omega arith)),
+      ordered-append ws s n sent o.1 (All-tail (λ w. w.waiting.number < n) w ws h),
+    )
 
 map-append : {A B : Type 0} (f : A → B) (xs ys : List A) → map f (xs ++ ys) ≡ map f xs ++ map f ys
 map-append f [] ys = refl

@@ -46,31 +46,33 @@ module _ {V : Type 0} (effect : Effect) (sound : Call → Type 0) (runs : V → 
       (s : StandsFor effect sound runs fed limit journal started segments old) → s.c.out worker ≡ None → (face old thread.n).place ≡ Suspended vt → Leaves worker thread 0 old new →
       Wakes thread.n old.resting.items new.resting.items → new.mail.items ≡ old.mail.items →
       GoesOn runs thread.n (s.c.thread thread.n) (Some vt) × StandsFor effect sound runs fed limit (journal ++ Take worker thread ∷ []) started (segments + 1) new
-  resumed fed limit journal started segments old new worker thread vt s free place l w mail =
-      (record { running = at.1.0; suspended = at.1.1; runs_it = at.1.2 }, record {
-        c = goes_on worker thread.n s.c;
-        is = play_push effect limit journal (Take worker thread) (Some (core_of_none fed)) s.c s.is ∙ goes effect limit worker thread s.c at.1.0 free at.0 at.1.1;
-        unfed = s.unfed;
-        sound_fed = s.sound_fed;
-        low = s.low;
-        high = s.high;
-        started_are = s.started_are;
-        takes_are = omega (arith, s.takes_are);
-        few_takes = let k = length_push journal (Take worker thread) in omega (arith, k, s.few_takes);
-        hall_stands = record {
-          seats = λ r. subst (SeatStands runs s.c.started r ((goes_on worker thread.n s.c).thread r)) (sym (l.faces r))
-              (put_both (SeatStands runs s.c.started) s.c.thread (face old) thread.n (record (s.c.thread thread.n) { worker = Some worker }) (gone worker 0 (face old thread.n)) (record {
-                place = (refl, (at.1.0, at.1.1));
-                calls = omega (arith, seat.calls);
-                few = omega (arith, seat.few);
-                log = seat.log;
-              }) h.seats r);
-          mail = record { deliveries = h.mail.deliveries; posted = h.mail.posted ∙ sym mail; inboxes = h.mail.inboxes; ordered = h.mail.ordered; below = h.mail.below; count = h.mail.count };
-          settled = subst (All (λ posted. HasSeat new posted.to.n)) (sym mail) (All-weaker (λ posted. HasSeat old posted.to.n) (λ posted. HasSeat new posted.to.n) (λ posted. l.seats posted.to.n) old.mail.items h.settled);
-          resting = rests_left old new worker thread 0 l w h.resting;
-          outs = outs_left old new worker thread 0 l (subst IsAtHome (sym place) tt) h.outs;
-        };
-      })
+  resumed fed limit journal started segments old new worker thread vt s free place l w mail = (
+    record { running = at.1.0; suspended = at.1.1; runs_it = at.1.2 },
+    record {
+      c = goes_on worker thread.n s.c;
+      is = play_push effect limit journal (Take worker thread) (Some (core_of_none fed)) s.c s.is ∙ goes effect limit worker thread s.c at.1.0 free at.0 at.1.1;
+      unfed = s.unfed;
+      sound_fed = s.sound_fed;
+      low = s.low;
+      high = s.high;
+      started_are = s.started_are;
+      takes_are = omega (arith, s.takes_are);
+      few_takes = let k = length_push journal (Take worker thread) in omega (arith, k, s.few_takes);
+      hall_stands = record {
+        seats = λ r. subst (SeatStands runs s.c.started r ((goes_on worker thread.n s.c).thread r)) (sym (l.faces r))
+            (put_both (SeatStands runs s.c.started) s.c.thread (face old) thread.n (record (s.c.thread thread.n) { worker = Some worker }) (gone worker 0 (face old thread.n)) (record {
+              place = (refl, (at.1.0, at.1.1));
+              calls = omega (arith, seat.calls);
+              few = omega (arith, seat.few);
+              log = seat.log;
+            }) h.seats r);
+        mail = record { deliveries = h.mail.deliveries; posted = h.mail.posted ∙ sym mail; inboxes = h.mail.inboxes; ordered = h.mail.ordered; below = h.mail.below; count = h.mail.count };
+        settled = subst (All (λ posted. HasSeat new posted.to.n)) (sym mail) (All-weaker (λ posted. HasSeat old posted.to.n) (λ posted. HasSeat new posted.to.n) (λ posted. l.seats posted.to.n) old.mail.items h.settled);
+        resting = rests_left old new worker thread 0 l w h.resting;
+        outs = outs_left old new worker thread 0 l (subst IsAtHome (sym place) tt) h.outs;
+      };
+    },
+  )
     where
       h : HallStands runs s.c old
       h = s.hall_stands
@@ -101,37 +103,39 @@ module _ {V : Type 0} (effect : Effect) (sound : Call → Type 0) (runs : V → 
       (s : StandsFor effect sound runs fed limit journal started segments old) → IsSoundCore sound s.c → s.c.out worker ≡ None → length s.c.started < limit →
       WasIdle vt (face old thread.n).place → Leaves worker thread 1 old new → new.resting.items ≡ old.resting.items → TakesFirst thread.n call old.mail.items new.mail.items →
       Begins sound runs thread.n s.c vt call × StandsFor effect sound runs fed limit (journal ++ Take worker thread ∷ []) (started + 1) (segments + 1) new
-  begun fed limit journal started segments old new worker thread vt call s sound_core free few place l resting takes =
-      (record {
-        idle = at.1;
-        head = heads.head;
-        rest = heads.rest;
-        inbox = heads.inbox;
-        call = heads.call;
-        sound_call = subst sound heads.call (All-head (λ w. sound w.message.call) heads.head heads.rest (subst (All (λ w. sound w.message.call)) heads.inbox (sound_core.inboxes thread.n)));
-        runs_it = at.2;
-        few = let a = idle_few (s.c.thread thread.n).finished (s.c.thread thread.n).running (face old thread.n).calls at.1 seat.few in
-              let b = calls_of-within thread.n s.c.started in
-              omega (arith, a, b, seat.calls, few, s.high);
-      }, record {
-        c = begins worker thread.n heads.head heads.rest s.c;
-        is = play_push effect limit journal (Take worker thread) (Some (core_of_none fed)) s.c s.is ∙ starts effect limit worker thread s.c heads.head heads.rest free at.0 at.1 heads.inbox few;
-        unfed = s.unfed;
-        sound_fed = s.sound_fed;
-        low = s.low;
-        high = s.high;
-        started_are = let k = length_push s.c.started start in omega (arith, k, s.started_are);
-        takes_are = omega (arith, s.takes_are);
-        few_takes = let k = length_push journal (Take worker thread) in omega (arith, k, s.few_takes);
-        hall_stands = record {
-          seats = λ r. subst (SeatStands runs (s.c.started ++ start ∷ []) r ((begins worker thread.n heads.head heads.rest s.c).thread r)) (sym (l.faces r)) (go r (eqb r thread.n) refl);
-          mail = heads.mail worker;
-          settled = All-weaker (λ posted. HasSeat old posted.to.n) (λ posted. HasSeat new posted.to.n) (λ posted. l.seats posted.to.n) new.mail.items
-              (subst (All (λ posted. HasSeat old posted.to.n)) (sym takes.is) (without (λ posted. HasSeat old posted.to.n) takes.front takes.first takes.back (subst (All (λ posted. HasSeat old posted.to.n)) takes.was h.settled)));
-          resting = rests_left old new worker thread 1 l (subst (Wakes thread.n old.resting.items) (sym resting) (already_awake old thread.n h.resting quiet.1)) h.resting;
-          outs = outs_left old new worker thread 1 l quiet.0 h.outs;
-        };
-      })
+  begun fed limit journal started segments old new worker thread vt call s sound_core free few place l resting takes = (
+    record {
+      idle = at.1;
+      head = heads.head;
+      rest = heads.rest;
+      inbox = heads.inbox;
+      call = heads.call;
+      sound_call = subst sound heads.call (All-head (λ w. sound w.message.call) heads.head heads.rest (subst (All (λ w. sound w.message.call)) heads.inbox (sound_core.inboxes thread.n)));
+      runs_it = at.2;
+      few = let a = idle_few (s.c.thread thread.n).finished (s.c.thread thread.n).running (face old thread.n).calls at.1 seat.few in
+          let b = calls_of-within thread.n s.c.started in
+          omega (arith, a, b, seat.calls, few, s.high);
+    },
+    record {
+      c = begins worker thread.n heads.head heads.rest s.c;
+      is = play_push effect limit journal (Take worker thread) (Some (core_of_none fed)) s.c s.is ∙ starts effect limit worker thread s.c heads.head heads.rest free at.0 at.1 heads.inbox few;
+      unfed = s.unfed;
+      sound_fed = s.sound_fed;
+      low = s.low;
+      high = s.high;
+      started_are = let k = length_push s.c.started start in omega (arith, k, s.started_are);
+      takes_are = omega (arith, s.takes_are);
+      few_takes = let k = length_push journal (Take worker thread) in omega (arith, k, s.few_takes);
+      hall_stands = record {
+        seats = λ r. subst (SeatStands runs (s.c.started ++ start ∷ []) r ((begins worker thread.n heads.head heads.rest s.c).thread r)) (sym (l.faces r)) (go r (eqb r thread.n) refl);
+        mail = heads.mail worker;
+        settled = All-weaker (λ posted. HasSeat old posted.to.n) (λ posted. HasSeat new posted.to.n) (λ posted. l.seats posted.to.n) new.mail.items
+            (subst (All (λ posted. HasSeat old posted.to.n)) (sym takes.is) (without (λ posted. HasSeat old posted.to.n) takes.front takes.first takes.back (subst (All (λ posted. HasSeat old posted.to.n)) takes.was h.settled)));
+        resting = rests_left old new worker thread 1 l (subst (Wakes thread.n old.resting.items) (sym resting) (already_awake old thread.n h.resting quiet.1)) h.resting;
+        outs = outs_left old new worker thread 1 l quiet.0 h.outs;
+      };
+    },
+  )
     where
       h : HallStands runs s.c old
       h = s.hall_stands
@@ -231,8 +235,10 @@ module _ {V : Type 0} (effect : Effect) (sound : Call → Type 0) (runs : V → 
           mail = subst (MailStands (core_of_none [])) (sym mail) (record { deliveries = []; posted = refl; inboxes = λ to. refl; ordered = tt; below = All-nil (λ d. d.waiting.number < 0); count = refl });
           settled = subst (All (λ posted. HasSeat hall posted.to.n)) (sym mail) (All-nil (λ posted. HasSeat hall posted.to.n));
           resting = λ r. (λ here. absurd (empty_list r (subst (λ l. Contains l r) resting here)), λ x. absurd (subst IsResting (ap (λ x. x.place) (ap face_of (seats r))) x));
-          outs = λ w t. (λ here. absurd (empty_list (record { worker = w; thread = t }) (subst (λ l. Contains l (record { worker = w; thread = t })) outs here)),
-            λ is. absurd (let e = sym (ap (λ x. x.place) (ap face_of (seats t.n))) ∙ is in cc));
+          outs = λ w t. (
+            λ here. absurd (empty_list (record { worker = w; thread = t }) (subst (λ l. Contains l (record { worker = w; thread = t })) outs here)),
+            λ is. absurd (let e = sym (ap (λ x. x.place) (ap face_of (seats t.n))) ∙ is in cc),
+          );
         };
       }))
     where

@@ -80,15 +80,17 @@ other_than m n = go (eqb m n) refl
 -- a thread that is filtered out is awake
 pub wakes_by : (n : ℕ) (old new : List ℕ) → new ≡ filter (λ other. not (eqb other n)) old → Wakes n old new
 wakes_by n old new is r = subst (λ l. Contains l r ↔ (Contains old r × (r ≢ n))) (sym is) (
-    λ here. let both = (passing (λ other. not (eqb other n)) old r).0 here in (both.0, (other_than r n).0 both.1),
-    λ both. (passing (λ other. not (eqb other n)) old r).1 (both.0, (other_than r n).1 both.1))
+  λ here. let both = (passing (λ other. not (eqb other n)) old r).0 here in (both.0, (other_than r n).0 both.1),
+  λ both. (passing (λ other. not (eqb other n)) old r).1 (both.0, (other_than r n).1 both.1),
+)
 
 -- a worker that is filtered out has nothing
 pub outs_by : (worker : ℕ) (old new : List Away) → new ≡ filter (λ away. not (eqb away.worker worker)) old → (w : ℕ) (t : ThreadId) →
     Contains new (record { worker = w; thread = t }) ↔ (Contains old (record { worker = w; thread = t }) × (w ≢ worker))
 outs_by worker old new is w t = subst (λ l. Contains l me ↔ (Contains old me × (w ≢ worker))) (sym is) (
-    λ here. let both = (passing (λ away. not (eqb away.worker worker)) old me).0 here in (both.0, (other_than w worker).0 both.1),
-    λ both. (passing (λ away. not (eqb away.worker worker)) old me).1 (both.0, (other_than w worker).1 both.1))
+  λ here. let both = (passing (λ away. not (eqb away.worker worker)) old me).0 here in (both.0, (other_than w worker).0 both.1),
+  λ both. (passing (λ away. not (eqb away.worker worker)) old me).1 (both.0, (other_than w worker).1 both.1),
+)
   where
     me : Away
     me = record { worker = w; thread = t }
@@ -129,17 +131,23 @@ module _ {V : Type 0} where
 
       go : (b : Bool) → eqb t.n thread.n ≡ b →
           Contains (old.outs.items ++ record { worker = worker; thread = thread } ∷ []) me ↔ ((cond b (gone worker begun (face old thread.n)) (face old t.n)).place ≡ Out w)
-      go true e = (λ here. elim (Contains-push_cases old.outs.items (record { worker = worker; thread = thread }) me here) [
-            inl before ↦ absurd (not_out w (subst (λ y. (face old y).place ≡ Out w) (eqb-true t.n thread.n e) ((h w t).0 before)))
-          | inr is ↦ ap (λ a. Out a.worker) is ],
-        λ is. subst (Contains (old.outs.items ++ record { worker = worker; thread = thread } ∷ [])) (same (out_same worker w is) (eqb-true t.n thread.n e)) (Contains-push old.outs.items (record { worker = worker; thread = thread })))
+      go true e = (
+        λ here. elim (Contains-push_cases old.outs.items (record { worker = worker; thread = thread }) me here) [
+          | inl before ↦ absurd (not_out w (subst (λ y. (face old y).place ≡ Out w) (eqb-true t.n thread.n e) ((h w t).0 before)))
+          | inr is ↦ ap (λ a. Out a.worker) is
+        ],
+        λ is. subst (Contains (old.outs.items ++ record { worker = worker; thread = thread } ∷ [])) (same (out_same worker w is) (eqb-true t.n thread.n e)) (Contains-push old.outs.items (record { worker = worker; thread = thread })),
+      )
         where
           same : worker ≡ w → t.n ≡ thread.n → record { worker = worker; thread = thread } ≡ me
           same a b = ap (λ x. record { worker = x; thread = thread }) a ∙ ap (λ x. record { worker = w; thread = record { n = x } }) (sym b)
-      go false e = (λ here. elim (Contains-push_cases old.outs.items (record { worker = worker; thread = thread }) me here) [
-            inl before ↦ (h w t).0 before
-          | inr is ↦ absurd (eqb-false t.n thread.n e (ap (λ a. a.thread.n) (sym is))) ],
-        λ is. Contains-append_left old.outs.items (record { worker = worker; thread = thread } ∷ []) me ((h w t).1 is))
+      go false e = (
+        λ here. elim (Contains-push_cases old.outs.items (record { worker = worker; thread = thread }) me here) [
+          | inl before ↦ (h w t).0 before
+          | inr is ↦ absurd (eqb-false t.n thread.n e (ap (λ a. a.thread.n) (sym is)))
+        ],
+        λ is. Contains-append_left old.outs.items (record { worker = worker; thread = thread } ∷ []) me ((h w t).1 is),
+      )
 
   pub outs_back : (old new : Hall V) (worker : ℕ) (thread : ThreadId) (place : Place V) → IsAtHome place →
       ((r : ℕ) → (face new r).place ≡ (cond (eqb r thread.n) place (face old r).place)) →
@@ -149,10 +157,14 @@ module _ {V : Type 0} where
       subst (λ x. Contains new.outs.items (record { worker = w; thread = t }) ↔ (x ≡ Out w)) (sym (places t.n)) (go (eqb t.n thread.n) refl)
     where
       go : (b : Bool) → eqb t.n thread.n ≡ b → Contains new.outs.items (record { worker = w; thread = t }) ↔ (cond b place (face old t.n).place ≡ Out w)
-      go true e = (λ here.
-          let both = (outs w t).0 here in
-          let there : (face old thread.n).place ≡ Out w = subst (λ y. (face old y).place ≡ Out w) (eqb-true t.n thread.n e) ((h w t).0 both.0) in
-          absurd (both.1 (out_same w worker (sym there ∙ was))),
-        λ is. absurd (subst IsAtHome is home))
-      go false e = (λ here. (h w t).0 ((outs w t).0 here).0,
-        λ is. (outs w t).1 ((h w t).1 is, λ same. eqb-false t.n thread.n e (alone t (is ∙ ap Out same))))
+      go true e = (
+        λ here.
+            let both = (outs w t).0 here in
+            let there : (face old thread.n).place ≡ Out w = subst (λ y. (face old y).place ≡ Out w) (eqb-true t.n thread.n e) ((h w t).0 both.0) in
+            absurd (both.1 (out_same w worker (sym there ∙ was))),
+        λ is. absurd (subst IsAtHome is home),
+      )
+      go false e = (
+        λ here. (h w t).0 ((outs w t).0 here).0,
+        λ is. (outs w t).1 ((h w t).1 is, λ same. eqb-false t.n thread.n e (alone t (is ∙ ap Out same))),
+      )

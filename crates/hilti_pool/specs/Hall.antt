@@ -1,5 +1,5 @@
 -- What the calls of a hall read and change: each thread's seat, by its number, and the room for more.
-use Rattle.std.specs.Prelude.{ℕ, ◌+◌, ◌<◌, ◌≤◌, ◌≢◌, ◌==◌, Bool, true, false, not, filter, nat_lt, List, [], ◌∷◌, ◌++◌, length, map, take, slice_get, Option, Some, None, ◌≡◌, ◌↔◌, ◌⊎◌, IsSome, IsSomeAnd, vec_len, vec_capacity}
+use Rattle.std.specs.Prelude.{ℕ, ◌+◌, ◌<◌, ◌≤◌, ◌≢◌, ◌==◌, Bool, true, false, not, filter, List, [], ◌∷◌, ◌++◌, length, take, slice_get, Option, Some, None, ◌≡◌, ◌↔◌, ◌⊎◌, IsSome, IsSomeAnd, vec_len, vec_capacity}
 use Rattle.std.specs.List.{All, Contains}
 use Rattle.std.specs.Ordering.{nat_cmp}
 use Rattle.std.specs.BTreeMap.{get}
@@ -15,7 +15,6 @@ use Rattle.hilti_pool.specs.declared.seat.Place.TheVariants.{Fresh, Idle, Suspen
 use Rattle.hilti_pool.specs.declared.seat.Posted.{Posted}
 use Rattle.hilti_pool.specs.declared.seat.Away.{Away}
 use Rattle.hilti_pool.specs.declared.hall.Hall.{Hall}
-use denote.Ref.{Bor}
 
 -- the calls that these items send, in order
 abbrev pub posted_by : List Item → List Posted
@@ -63,15 +62,6 @@ HasNothing worker outs = (thread : ThreadId) → ¬ Contains outs (record { work
 -- the worker has this thread
 abbrev pub HasThread : ℕ → List Away → ThreadId → Type 0
 HasThread worker outs thread = Contains outs (record { worker = worker; thread = thread })
-
--- what a log shows of a thread: its number, how many calls it started, and its lines
-pub record Seen : Type 0 where
-  pub thread : ℕ
-  pub calls : ℕ
-  pub log : List Text
-
-abbrev pub seen_of : ThreadId × ℕ × Bor (List Text) → Seen
-seen_of shown = record { thread = shown.0.n; calls = shown.1; log = shown.2.now }
 
 -- what is seen of a thread: where it is, how many calls it started, and its lines
 pub record Face (V : Type 0) : Type 0 where
@@ -182,8 +172,4 @@ module _ {V : Type 0} where
   ComesFirst hall None = (hall.resting.items ≡ []) × (hall.mail.items ≡ [])
   ComesFirst hall (Some thread) =
       (Contains hall.resting.items thread.n × All (λ other. thread.n ≤ other) hall.resting.items)
-          ⊎ ((hall.resting.items ≡ []) × ((first : Posted) × ((rest : List Posted) × (hall.mail.items ≡ first ∷ rest) × (first.to ≡ thread))))
-
-  -- the threads that started a call, by rising number
-  abbrev pub that_ran : Hall V → List Seen
-  that_ran hall = map (λ entry. record { thread = entry.0; calls = entry.1.calls; log = entry.1.log.items }) (filter (λ entry. nat_lt 0 entry.1.calls) hall.seats.entries)
+      ⊎ ((hall.resting.items ≡ []) × ((first : Posted) × ((rest : List Posted) × (hall.mail.items ≡ first ∷ rest) × (first.to ≡ thread))))

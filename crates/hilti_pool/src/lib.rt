@@ -2,15 +2,11 @@
 //! A pool stands for the core of its journal at every moment.
 #![tactic(auto)]
 
-mod entry;
 mod hall;
-mod job;
 mod pool;
 mod queries;
 mod seat;
 #[cfg(test)]
 mod tests;
 
-pub use entry::Entry;
-pub use job::{Job, Taken};
 pub use pool::Pool;

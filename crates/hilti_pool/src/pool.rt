@@ -3,9 +3,8 @@ ghost use Rattle.std.specs.VecDeque.{deque_len, deque_capacity};
 ghost use Rattle.hilti_pool.specs.Hall.{HasSeat, Grows};
 
 use crate::hall::Hall;
-use crate::job::{Job, Taken};
 use hilti_base::{NoMemory, ThreadId};
-use hilti_core::{Body, Event, Items, Segment};
+use hilti_core::{Body, Event, Items};
 use hilti_tree::{Call, Calls, copy_call};
 use std::alloc::Global;
 use std::marker::Model;
@@ -43,27 +42,24 @@ impl<B: Body> Model for Pool<B> {
     ghost use Rattle.hilti_pool.specs.Stands.{StandsFor};
 
     ghost view = { λ a. record {
-        about = B.facts a.body.value;
-        limit = a.limit;
-        fed = a.fed;
-        journal = a.journal.items;
-        ended = a.ended;
-        given_up = a.given_up;
-        room = option_map (λ items. items.value) a.room;
+      about = B.facts a.body.value;
+      limit = a.limit;
+      fed = a.fed;
+      journal = a.journal.items;
+      ended = a.ended;
+      given_up = a.given_up;
+      room = option_map (λ items. items.value) a.room;
     } };
 
     ghost invariant = { λ a.
         let about = B.facts a.body.value in
         StandsFor (B.effect about) (B.sound about) (B.runs about) a.fed a.limit a.journal.items a.started a.segments a.hall
-            × IfSome a.room (λ items. HasRoom items.value a.hall × (vec_len a.journal + 1 ≤ vec_capacity a.journal)) };
+        × IfSome a.room (λ items. HasRoom items.value a.hall × (vec_len a.journal + 1 ≤ vec_capacity a.journal)) };
 }
 
 impl<B: Body> Pool<B> {
     ghost use Rattle.std.specs.Prelude.{◌≡◌, ◌≤◌, true, false, Some, None, IsSome, OnOk, OnErr, IfErr};
-    ghost use Rattle.hilti_pool.specs.State.{InCore, empty, after_feed, after_take, after_put, end_of};
-    ghost use Rattle.hilti_pool.specs.Readiness.{IsReady};
-    ghost use Rattle.hilti_pool.specs.Work.{IsWork, IsDone};
-    ghost use Rattle.hilti_pool.specs.Answers.{Answers};
+    ghost use Rattle.hilti_pool.specs.State.{empty, after_feed, end_of};
 
     /// A pool over this body to which nothing happened, where at most `limit` calls may start: 1 to 100,000,000. It
     /// takes no memory.
@@ -94,7 +90,13 @@ impl<B: Body> Pool<B> {
         ensures ok { OnOk result (self.new ≡ after_feed call self.old) }
         ensures err { IfErr result (λ back. (back.0 ≡ call) × (self.new ≡ self.old)) }
     {
-        let admitted = admit(self.alloc, &call, &mut self.fed, &mut self.journal, &mut self.hall);
+        let admitted = admit(
+            self.alloc,
+            &call,
+            &mut self.fed,
+            &mut self.journal,
+            &mut self.hall,
+        );
         if let Err(error) = admitted {
             return Err((call, error));
         }
@@ -124,74 +126,7 @@ impl<B: Body> Pool<B> {
         Ok(())
     }
 
-    /// Takes a thread that is ready, if one is; which one is free. It takes no memory.
-    pub fn take(&mut self, worker: u32) -> Taken<B>
-        requires room { IsSome self.old.room }
-        requires free { InCore B.effect self.old (λ c. c.out worker ≡ None) }
-        ensures { Answers B.effect B.sound B.runs worker self.old result self.new }
-    {
-        if self.given_up {
-            return Taken::Broken;
-        }
-        if let Some(thread) = self.hall.any_ready(self.started < self.limit) {
-            return Taken::Job(self.take_thread(worker, thread));
-        }
-        if !self.hall.outs.is_empty() {
-            return Taken::Nothing;
-        }
-        if !self.hall.mail.is_empty() {
-            return Taken::Limit;
-        }
-        if self.ended.is_none() {
-            return Taken::Nothing;
-        }
-        Taken::Finished
-    }
-
-    /// Takes this thread, which is ready. It takes no memory.
-    pub fn take_thread(&mut self, worker: u32, thread: ThreadId) -> Job<B>
-        requires room { IsSome self.old.room }
-        requires kept { self.old.given_up ≡ false }
-        requires free { InCore B.effect self.old (λ c. c.out worker ≡ None) }
-        requires ready { InCore B.effect self.old (λ c. IsReady self.old.limit c thread.n) }
-        ensures thread { result.thread ≡ thread }
-        ensures work { InCore B.effect self.old (λ c. IsWork (B.sound self.old.about) (B.runs self.old.about) thread.n c result.vt result.next) }
-        ensures pool { self.new ≡ after_take worker thread self.old }
-    {
-        self.room = None;
-        self.segments += 1;
-        note(&mut self.journal, Event::Take { worker, thread });
-        if self.hall.is_suspended(thread) {
-            let vt = self.hall.resume(worker, thread);
-            return Job {
-                thread,
-                vt: Some(vt),
-                next: None,
-            };
-        }
-        self.started += 1;
-        let (vt, call) = self.hall.begin(worker, thread);
-        Job {
-            thread,
-            vt,
-            next: Some(call),
-        }
-    }
-
-    /// Puts back the thread that the worker has, with the virtual thread that ran the segment: the items are posted in
-    /// their order. It takes no memory.
-    pub fn put(&mut self, worker: u32, thread: ThreadId, vt: B::Vt, segment: Segment)
-        requires room { self.old.room ≡ Some segment.items }
-        requires done { InCore B.effect self.old (IsDone (B.effect self.old.about) (B.runs self.old.about) worker thread.n vt segment) }
-        ensures { self.new ≡ after_put worker self.old }
-    {
-        let Segment { items, end } = segment;
-        self.hall.give_back(worker, thread, vt, items, end);
-        note(&mut self.journal, Event::Put { worker });
-        self.room = None;
-    }
-
-    /// Ends all takes: each one answers `Broken` from now on. It takes no memory.
+    /// Marks the pool as given up. It takes no memory.
     pub fn give_up(&mut self)
         ensures { self.new ≡ record self.old { given_up = true } }
     {

@@ -7,9 +7,10 @@ use Rattle.hilti_pool.proofs.hall.Hall.reserve_logs.Goals as goal
 pub loop-place-preserved : goal.loop-place-preserved
 loop-place-preserved g c =
     let old = c.loop-place.self in
-    let len = c.loop-place.invariant.0.outs_len in
-    (grows_on c.args.self.now old c.reserve_log.new.self c.loop-place.invariant.0 c.reserve_log.ensures.grows,
-    more_logs c.args.count c.loop-place.place old c.reserve_log.new.self c.index-away.result.now c.reserve_log.ensures.grows (omega (arith, old.outs.ok.0, len)) c.index-away.ensures c.loop-place.invariant.1 c.in_ok-reserve_log.ensures.log)
+    let len = c.loop-place.invariant.0.outs_len in (
+      grows_on c.args.self.now old c.reserve_log.new.self c.loop-place.invariant.0 c.reserve_log.ensures.grows,
+      more_logs c.args.count c.loop-place.place old c.reserve_log.new.self c.index-away.result.now c.reserve_log.ensures.grows (omega (arith, old.outs.ok.0, len)) c.index-away.ensures c.loop-place.invariant.1 c.in_ok-reserve_log.ensures.log,
+    )
 
 pub returns-clause-logs : goal.returns-clause-logs
 returns-clause-logs g c =

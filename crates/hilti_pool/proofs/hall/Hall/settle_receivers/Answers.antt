@@ -10,7 +10,8 @@ loop-item-preserved g c =
     let old = c.loop-item.self in
     let new = c.settle_receiver.new.self in
     let items = c.as_slice-item-items.result.now in
-    let more = c.settle_receiver.ensures.grows in
-    (grows_on c.args.self.now old new c.loop-item.invariant.0 more,
-    one_receiver (HasSeat new) items c.loop-item.item-index c.item-item.result (omega arith) c.item-item.is
-    (All-weaker (HasSeat old) (HasSeat new) more.seats (receivers (take c.loop-item.item-index items)) c.loop-item.invariant.1) c.in_ok-settle_receiver.ensures.seats)
+    let more = c.settle_receiver.ensures.grows in (
+      grows_on c.args.self.now old new c.loop-item.invariant.0 more,
+      one_receiver (HasSeat new) items c.loop-item.item-index c.item-item.result (omega arith) c.item-item.is
+          (All-weaker (HasSeat old) (HasSeat new) more.seats (receivers (take c.loop-item.item-index items)) c.loop-item.invariant.1) c.in_ok-settle_receiver.ensures.seats,
+    )
