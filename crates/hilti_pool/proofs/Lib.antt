@@ -6,5 +6,4 @@ pub mod Homecoming
 pub mod Rooms
 pub mod Causes
 pub mod Items
-pub mod Returns
 pub mod Telling

@@ -57,17 +57,6 @@ impl<T: Drop> Hall<T> {
         Ok(())
     }
 
-    /// Makes room to post these items, and to take a thread or give one back.
-    pub(crate) fn reserve(&mut self, items: &Items) -> Result<(), NoMemory>
-        ensures grows { Grows self.old self.new }
-        ensures room { OnOk result (HasRoom items.now self.new) }
-    {
-        let count = items.len();
-        self.reserve_places(count)?;
-        self.settle_receivers(items)?;
-        self.reserve_logs(count)
-    }
-
     /// Makes room for so many calls more, and to take a thread or give one back.
     fn reserve_places(&mut self, count: usize) -> Result<(), NoMemory>
         ensures grows { Grows self.old self.new }

@@ -115,17 +115,6 @@ impl<B: Body> Pool<B> {
         }
     }
 
-    /// Makes room for one more event, and for posting these items. Without memory nothing changes.
-    pub fn make_room(&mut self, items: &Items) -> Result<(), NoMemory>
-        ensures ok { OnOk result (self.new ≡ record self.old { room = Some items.now }) }
-        ensures err { OnErr result (self.new ≡ self.old) }
-    {
-        self.journal.reserve(1)?;
-        self.hall.reserve(items)?;
-        self.room = Some(Snapshot::of(items));
-        Ok(())
-    }
-
     /// Marks the pool as given up. It takes no memory.
     pub fn give_up(&mut self)
         ensures { self.new ≡ record self.old { given_up = true } }

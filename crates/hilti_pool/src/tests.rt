@@ -1,7 +1,7 @@
 use crate::pool::Pool;
 use hilti_base::{FnId, NoMemory, ThreadId};
+use hilti_core::Event;
 use hilti_core::countdown::Countdown;
-use hilti_core::{Event, Items};
 use hilti_tree::{Call, Forest, Tree};
 use std::alloc::Global;
 use std::test::Fail;
@@ -28,7 +28,6 @@ fn a_pool_that_was_fed(rt: HostRuntime) -> Result<(), Fail> {
     assert_eq!(rt; pool.first_arrived(), None);
     feed(&mut pool, alloc, 2)?;
     feed(&mut pool, alloc, 0)?;
-    pool.make_room(&Items::new(alloc))?;
     pool.end_feed();
     pool.give_up();
     assert_eq!(rt; pool.waiting(), 2);
