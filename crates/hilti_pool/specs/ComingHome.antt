@@ -8,8 +8,11 @@ use Rattle.hilti_pool.specs.declared.hall.Hall.{Hall}
 use Rattle.hilti_pool.specs.Hall.{face, HasSeat, back_home, posted_by}
 
 -- the worker's thread is at home, where it is suspended, and these items are posted
-pub record ComesToRest {V : Type 0} (worker : ℕ) (thread : ThreadId) (vt : V) (items : List Item) (lines : List Text) (old new : Hall V) : Type 0 where
-  pub faces : (r : ℕ) → face new r ≡ put_at (face old) thread.n (back_home (Suspended vt) lines (face old thread.n)) r
+pub record ComesToRest {V : Type 0} (worker : ℕ) (thread : ThreadId) (vt : V) (items : List Item)
+    (lines : List Text) (old new : Hall V) : Type 0 where
+  pub faces : (r : ℕ)
+      → face new r
+      ≡ put_at (face old) thread.n (back_home (Suspended vt) lines (face old thread.n)) r
   pub seats : (r : ℕ) → HasSeat old r → HasSeat new r
   pub mail : new.mail.items ≡ old.mail.items ++ posted_by items
   pub resting : new.resting.items ≡ old.resting.items ++ thread.n ∷ []

@@ -1,5 +1,8 @@
--- What the calls of a hall read and change: each thread's seat, by its number, and the room for more.
-use Rattle.std.specs.Prelude.{ℕ, ◌+◌, ◌<◌, ◌≤◌, ◌≢◌, ◌==◌, Bool, true, false, not, filter, List, [], ◌∷◌, ◌++◌, length, take, slice_get, Option, Some, None, ◌≡◌, ◌↔◌, ◌⊎◌, IsSome, IsSomeAnd, vec_len, vec_capacity}
+-- What the calls of a hall read and change: each thread's seat, by its number, and the room for
+-- more.
+use Rattle.std.specs.Prelude.{ℕ, ◌+◌, ◌<◌, ◌≤◌, ◌≢◌, ◌==◌, Bool, true, false, not, filter, List, []}
+use Rattle.std.specs.Prelude.{◌∷◌, ◌++◌, length, take, slice_get, Option, Some, None, ◌≡◌, ◌↔◌, ◌⊎◌}
+use Rattle.std.specs.Prelude.{IsSome, IsSomeAnd, vec_len, vec_capacity}
 use Rattle.std.specs.List.{All, Contains}
 use Rattle.std.specs.Ordering.{nat_cmp}
 use Rattle.std.specs.BTreeMap.{get}
@@ -38,7 +41,8 @@ NoneFor r mail = All (λ posted. ¬ IsFor r posted) mail
 
 -- the first call for this thread stands at this place
 abbrev pub IsFirstFor : ℕ → List Posted → ℕ → Type 0
-IsFirstFor r mail place = (place < length mail) × NoneFor r (take place mail) × IsSomeAnd (slice_get mail place) (IsFor r)
+IsFirstFor r mail place =
+    (place < length mail) × NoneFor r (take place mail) × IsSomeAnd (slice_get mail place) (IsFor r)
 
 -- what is left of mail when the first call for a thread is taken out
 pub record TakesFirst (r : ℕ) (taken : Call) (old new : List Posted) : Type 0 where
@@ -57,7 +61,8 @@ Wakes thread old new = (r : ℕ) → Contains new r ↔ (Contains old r × (r �
 
 -- the worker has no thread
 abbrev pub HasNothing : ℕ → List Away → Type 0
-HasNothing worker outs = (thread : ThreadId) → ¬ Contains outs (record { worker = worker; thread = thread })
+HasNothing worker outs =
+    (thread : ThreadId) → ¬ Contains outs (record { worker = worker; thread = thread })
 
 -- the worker has this thread
 abbrev pub HasThread : ℕ → List Away → ThreadId → Type 0
@@ -86,9 +91,11 @@ module _ {V : Type 0} where
 
   -- the thread's log has room for so many lines more
   abbrev pub HasLogRoom : ℕ → Hall V → ℕ → Type 0
-  HasLogRoom n hall r = IsSomeAnd (seat_at hall r) (λ seat. vec_len seat.log + n ≤ vec_capacity seat.log)
+  HasLogRoom n hall r =
+      IsSomeAnd (seat_at hall r) (λ seat. vec_len seat.log + n ≤ vec_capacity seat.log)
 
-  -- there is room to post these items, by any thread that is out, and to take a thread or to give one back
+  -- there is room to post these items, by any thread that is out, and to take a thread or to give
+  -- one back
   pub record HasRoom (items : List Item) (hall : Hall V) : Type 0 where
     pub mail : deque_len hall.mail + length items ≤ deque_capacity hall.mail
     pub resting : vec_len hall.resting + 1 ≤ vec_capacity hall.resting
@@ -121,13 +128,16 @@ module _ {V : Type 0} where
 
   -- the worker has the thread, which starts so many calls more: none or one
   pub record Leaves (worker : ℕ) (thread : ThreadId) (begun : ℕ) (old new : Hall V) : Type 0 where
-    pub faces : (r : ℕ) → face new r ≡ put_at (face old) thread.n (gone worker begun (face old thread.n)) r
+    pub faces : (r : ℕ)
+        → face new r ≡ put_at (face old) thread.n (gone worker begun (face old thread.n)) r
     pub seats : (r : ℕ) → HasSeat old r → HasSeat new r
     pub outs : new.outs.items ≡ old.outs.items ++ record { worker = worker; thread = thread } ∷ []
 
   -- the worker's thread is at home, and these items are posted
-  pub record ComesBack (worker : ℕ) (thread : ThreadId) (place : Place V) (items : List Item) (lines : List Text) (old new : Hall V) : Type 0 where
-    pub faces : (r : ℕ) → face new r ≡ put_at (face old) thread.n (back_home place lines (face old thread.n)) r
+  pub record ComesBack (worker : ℕ) (thread : ThreadId) (place : Place V) (items : List Item)
+      (lines : List Text) (old new : Hall V) : Type 0 where
+    pub faces : (r : ℕ)
+        → face new r ≡ put_at (face old) thread.n (back_home place lines (face old thread.n)) r
     pub seats : (r : ℕ) → HasSeat old r → HasSeat new r
     pub mail : new.mail.items ≡ old.mail.items ++ posted_by items
     pub resting : new.resting ≡ old.resting
@@ -152,11 +162,14 @@ module _ {V : Type 0} where
 
   -- the thread is at home, and a call waits for it
   abbrev pub IsAwaited : Hall V → ThreadId → Type 0
-  IsAwaited hall thread = IsAtHome (face hall thread.n).place × ((posted : Posted) × Contains hall.mail.items posted × (posted.to ≡ thread))
+  IsAwaited hall thread = IsAtHome (face hall thread.n).place
+      × ((posted : Posted) × Contains hall.mail.items posted × (posted.to ≡ thread))
 
-  -- a thread that is suspended at home, or, where calls may start, one at home that a call waits for
+  -- a thread that is suspended at home, or, where calls may start, one at home that a call waits
+  -- for
   abbrev pub MayGo : Bool → Hall V → ThreadId → Type 0
-  MayGo may hall thread = Contains hall.resting.items thread.n ⊎ ((may ≡ true) × IsAwaited hall thread)
+  MayGo may hall thread =
+      Contains hall.resting.items thread.n ⊎ ((may ≡ true) × IsAwaited hall thread)
 
   -- there is no such thread
   abbrev pub NoneMayGo : Bool → Hall V → Type 0
@@ -167,9 +180,12 @@ module _ {V : Type 0} where
   WasIdle None place = place ≡ Fresh
   WasIdle (Some vt) place = place ≡ Idle vt
 
-  -- where one worker runs all: a thread at rest of least number, else that of the first call that waits
+  -- where one worker runs all: a thread at rest of least number, else that of the first call that
+  -- waits
   abbrev pub ComesFirst : Hall V → Option ThreadId → Type 0
   ComesFirst hall None = (hall.resting.items ≡ []) × (hall.mail.items ≡ [])
   ComesFirst hall (Some thread) =
       (Contains hall.resting.items thread.n × All (λ other. thread.n ≤ other) hall.resting.items)
-      ⊎ ((hall.resting.items ≡ []) × ((first : Posted) × ((rest : List Posted) × (hall.mail.items ≡ first ∷ rest) × (first.to ≡ thread))))
+      ⊎ ((hall.resting.items ≡ [])
+      × ((first : Posted)
+      × ((rest : List Posted) × (hall.mail.items ≡ first ∷ rest) × (first.to ≡ thread))))

@@ -15,7 +15,8 @@ IsSuspended c r = IsHome c r × ((running : Running) × ((c.thread r).running �
 abbrev pub HasMail : Core → ℕ → Type 0
 HasMail c r = ¬ (c.inbox r ≡ [])
 
--- the thread is at home, and is suspended, or has a waiting call where fewer calls than the limit have started
+-- the thread is at home, and is suspended, or has a waiting call where fewer calls than the limit
+-- have started
 abbrev pub IsReady : ℕ → Core → ℕ → Type 0
 IsReady limit c r = IsSuspended c r ⊎ (IsHome c r × HasMail c r × (length c.started < limit))
 
@@ -52,8 +53,8 @@ pub record IsFirstPosted (c : Core) (r : ℕ) : Type 0 where
   pub inbox : c.inbox r ≡ head ∷ rest
   pub least : (other : ℕ) → All (λ waiting. head.number ≤ waiting.number) (c.inbox other)
 
--- the thread that goes on where one worker runs all: a suspended one of least number, or the one whose call was posted
--- first; none where none is suspended and nothing waits
+-- the thread that goes on where one worker runs all: a suspended one of least number, or the one
+-- whose call was posted first; none where none is suspended and nothing waits
 abbrev pub IsFirst : Core → Option ℕ → Type 0
 IsFirst c None = NoneSuspended c × NoMail c
 IsFirst c (Some r) = IsFirstSuspended c r ⊎ (NoneSuspended c × IsFirstPosted c r)

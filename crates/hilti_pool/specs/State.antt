@@ -8,8 +8,9 @@ use Rattle.hilti_core.specs.declared.event.Event.TheVariants.{Feed, Take, Put}
 use Rattle.hilti_core.specs.Sending.{Effect}
 use Rattle.hilti_core.specs.Core.{Core, core}
 
--- a pool: what its body's data are, how many calls may start, the calls that were fed, the events so far, how many
--- events were there when the feed ended, whether the pool was given up, and the items that there is room to post
+-- a pool: what its body's data are, how many calls may start, the calls that were fed, the events
+-- so far, how many events were there when the feed ended, whether the pool was given up, and the
+-- items that there is room to post
 pub record PoolState (D : Type 0) : Type 0 where
   pub about : D
   pub limit : ℕ
@@ -48,10 +49,12 @@ module _ {D : Type 0} where
   }
 
   abbrev pub after_feed : Call → PoolState D → PoolState D
-  after_feed call pool = record pool { fed = pool.fed ++ call ∷ []; journal = pool.journal ++ Feed ∷ []; room = None }
+  after_feed call pool =
+      record pool { fed = pool.fed ++ call ∷ []; journal = pool.journal ++ Feed ∷ []; room = None }
 
   abbrev pub after_take : ℕ → ThreadId → PoolState D → PoolState D
-  after_take worker thread pool = record pool { journal = pool.journal ++ Take worker thread ∷ []; room = None }
+  after_take worker thread pool =
+      record pool { journal = pool.journal ++ Take worker thread ∷ []; room = None }
 
   abbrev pub after_put : ℕ → PoolState D → PoolState D
   after_put worker pool = record pool { journal = pool.journal ++ Put worker ∷ []; room = None }

@@ -1,11 +1,17 @@
-ghost use Rattle.std.specs.Prelude.{◌≡◌, ◌+◌, ◌<◌, ◌≤◌, ◌^◌, ◌↔◌, ℕ, [], ◌∷◌, ◌++◌, length, IsTrue, IsSome, IfSome, MatchOption, IfNone, None, MatchBool, not, filter, ◌==◌, take, OnOk, vec_len, vec_capacity};
+ghost use Rattle.std.specs.Prelude.{◌≡◌, ◌+◌, ◌<◌, ◌≤◌, ◌^◌, ◌↔◌, ℕ, [], ◌∷◌, ◌++◌, length, IsTrue};
+ghost use Rattle.std.specs.Prelude.{IsSome, IfSome, MatchOption, IfNone, None, MatchBool, not};
+ghost use Rattle.std.specs.Prelude.{filter, ◌==◌, take, OnOk, vec_len, vec_capacity};
 ghost use Rattle.std.specs.List.{All, Contains};
 ghost use Rattle.std.specs.VecDeque.{deque_len, deque_capacity};
 ghost use Rattle.hilti_pool.specs.declared.seat.Place.TheVariants.{Idle, Suspended};
 ghost use Rattle.hilti_core.specs.declared.pieces.End.TheVariants.{Yielded};
 ghost use Rattle.hilti_core.specs.Sending.{lines, put_at};
 ghost use Rattle.hilti_pool.specs.ComingHome.{ComesToRest};
-ghost use Rattle.hilti_pool.specs.Hall.{face, back_home, seat_at, HasSeat, HasLogRoom, HasRoom, Grows, Leaves, Wakes, ComesBack, TakesFirst, posted_by, receivers, NoneFor, IsFirstFor, IsAtHome, IsResting, NoneAtHome, IsAwaited, MayGo, NoneMayGo, WasIdle, HasNothing, HasThread, ComesFirst};
+ghost use Rattle.hilti_pool.specs.Hall.{face, back_home, seat_at, HasSeat, HasLogRoom, HasRoom};
+ghost use Rattle.hilti_pool.specs.Hall.{Grows, Leaves, Wakes, ComesBack, TakesFirst, posted_by};
+ghost use Rattle.hilti_pool.specs.Hall.{receivers, NoneFor, IsFirstFor, IsAtHome, IsResting};
+ghost use Rattle.hilti_pool.specs.Hall.{NoneAtHome, IsAwaited, MayGo, NoneMayGo, WasIdle};
+ghost use Rattle.hilti_pool.specs.Hall.{HasNothing, HasThread, ComesFirst};
 
 use crate::seat::{Away, Place, Posted, Seat};
 use hilti_base::{Blob, NoMemory, ThreadId};
@@ -60,8 +66,10 @@ impl<T: Drop> Hall<T> {
     /// Makes room for so many calls more, and to take a thread or give one back.
     fn reserve_places(&mut self, count: usize) -> Result<(), NoMemory>
         ensures grows { Grows self.old self.new }
-        ensures mail { OnOk result (deque_len self.new.mail + count ≤ deque_capacity self.new.mail) }
-        ensures resting { OnOk result (vec_len self.new.resting + 1 ≤ vec_capacity self.new.resting) }
+        ensures mail { OnOk result (deque_len self.new.mail + count
+            ≤ deque_capacity self.new.mail) }
+        ensures resting { OnOk result (vec_len self.new.resting + 1
+            ≤ vec_capacity self.new.resting) }
         ensures outs { OnOk result (vec_len self.new.outs + 1 ≤ vec_capacity self.new.outs) }
     {
         self.mail.reserve(count)?;
@@ -95,7 +103,8 @@ impl<T: Drop> Hall<T> {
     /// Makes room for so many lines more in the log of each thread that is out.
     fn reserve_logs(&mut self, count: usize) -> Result<(), NoMemory>
         ensures grows { Grows self.old self.new }
-        ensures logs { OnOk result (All (λ away. HasLogRoom count self.new away.thread.n) self.new.outs.items) }
+        ensures logs { OnOk result
+            (All (λ away. HasLogRoom count self.new away.thread.n) self.new.outs.items) }
     {
         for place in 0..self.outs.len() {
             let away = self.outs[place];
@@ -146,7 +155,8 @@ impl<T: Drop> Hall<T> {
     /// Takes out the first call that waits for the thread, if one does.
     fn collect(&mut self, thread: ThreadId) -> Option<Call>
         ensures none { IfNone result (NoneFor thread.n self.old.mail.items) }
-        ensures some { IfSome result (λ call. TakesFirst thread.n call self.old.mail.items self.new.mail.items) }
+        ensures some { IfSome result
+            (λ call. TakesFirst thread.n call self.old.mail.items self.new.mail.items) }
         ensures seats { self.new.seats ≡ self.old.seats }
         ensures resting { self.new.resting ≡ self.old.resting }
         ensures outs { self.new.outs ≡ self.old.outs }
@@ -173,14 +183,16 @@ impl<T: Drop> Hall<T> {
 
     /// Does a call wait for the thread?
     pub(crate) fn has_mail(&self, thread: ThreadId) -> bool
-        ensures { MatchBool result (¬ NoneFor thread.n self.now.mail.items) (NoneFor thread.n self.now.mail.items) }
+        ensures { MatchBool result (¬ NoneFor thread.n self.now.mail.items)
+            (NoneFor thread.n self.now.mail.items) }
     {
         self.place_of(thread).is_some()
     }
 
     /// The thread that a worker has, if it has one.
     pub(crate) fn out_at(&self, worker: u32) -> Option<ThreadId>
-        ensures { MatchOption result (HasNothing worker self.now.outs.items) (HasThread worker self.now.outs.items) }
+        ensures { MatchOption result (HasNothing worker self.now.outs.items)
+            (HasThread worker self.now.outs.items) }
     {
         for away in self.outs.as_slice() {
             if away.worker == worker {
@@ -205,7 +217,8 @@ impl<T: Drop> Hall<T> {
 
     /// Marks a thread as no longer suspended at home.
     fn wake(&mut self, thread: ThreadId)
-        ensures resting { self.new.resting.items ≡ filter (λ other. not (other == thread.n)) self.old.resting.items }
+        ensures resting { self.new.resting.items
+            ≡ filter (λ other. not (other == thread.n)) self.old.resting.items }
         ensures seats { self.new.seats ≡ self.old.seats }
         ensures mail { self.new.mail ≡ self.old.mail }
         ensures outs { self.new.outs ≡ self.old.outs }
@@ -256,7 +269,8 @@ impl<T: Drop> Hall<T> {
     /// A worker takes a thread to begin the first call that waits for it.
     pub(crate) fn begin(&mut self, worker: u32, thread: ThreadId) -> (Option<T>, Call)
         requires seat { HasSeat self.old thread.n }
-        requires home { IsAtHome (face self.old thread.n).place × ¬ IsResting (face self.old thread.n).place }
+        requires home { IsAtHome (face self.old thread.n).place
+            × ¬ IsResting (face self.old thread.n).place }
         requires waits { ¬ NoneFor thread.n self.old.mail.items }
         requires room { vec_len self.old.outs + 1 ≤ vec_capacity self.old.outs }
         requires few { (face self.old thread.n).calls < 100000000 }
@@ -301,8 +315,10 @@ impl<T: Drop> Hall<T> {
     pub(crate) fn give_back(&mut self, worker: u32, thread: ThreadId, vt: T, items: Items, end: End)
         requires room { HasRoom items self.old }
         requires out { Contains self.old.outs.items (record { worker = worker; thread = thread }) }
-        ensures yielded { end ≡ Yielded → ComesToRest worker thread vt items (lines items) self.old self.new }
-        ensures ended { ¬ (end ≡ Yielded) → ComesBack worker thread (Idle vt) items (lines items) self.old self.new }
+        ensures yielded { end ≡ Yielded
+            → ComesToRest worker thread vt items (lines items) self.old self.new }
+        ensures ended { ¬ (end ≡ Yielded)
+            → ComesBack worker thread (Idle vt) items (lines items) self.old self.new }
     {
         if end != End::Yielded {
             self.come_home(worker, thread, Place::Idle(vt), items);
@@ -326,7 +342,10 @@ impl<T: Drop> Hall<T> {
     fn arrive(&mut self, thread: ThreadId, place: Place<T>, items: Items)
         requires mail { deque_len self.old.mail + length items ≤ deque_capacity self.old.mail }
         requires log { HasLogRoom (length items) self.old thread.n }
-        ensures faces { (r : ℕ) → face self.new r ≡ put_at (face self.old) thread.n (back_home place (lines items) (face self.old thread.n)) r }
+        ensures faces { (r : ℕ)
+            → face self.new r
+            ≡ put_at (face self.old) thread.n
+            (back_home place (lines items) (face self.old thread.n)) r }
         ensures seats { (r : ℕ) → HasSeat self.old r → HasSeat self.new r }
         ensures mail { self.new.mail.items ≡ self.old.mail.items ++ posted_by items }
         ensures resting { self.new.resting ≡ self.old.resting }
@@ -365,7 +384,8 @@ impl<T: Drop> Hall<T> {
     /// A call waits behind all others.
     pub(crate) fn post(&mut self, to: ThreadId, call: Call)
         requires { deque_len self.old.mail + 1 ≤ deque_capacity self.old.mail }
-        ensures mail { self.new.mail.items ≡ self.old.mail.items ++ record { to = to; call = call } ∷ [] }
+        ensures mail { self.new.mail.items
+            ≡ self.old.mail.items ++ record { to = to; call = call } ∷ [] }
         ensures seats { self.new.seats ≡ self.old.seats }
         ensures resting { self.new.resting ≡ self.old.resting }
         ensures outs { self.new.outs ≡ self.old.outs }
@@ -396,8 +416,10 @@ fn deliver_one(item: Item, mail: &mut VecDeque<Posted>, log: &mut Vec<Blob>)
     requires log { vec_len log.old + 1 ≤ vec_capacity log.old }
     ensures mail { mail.new.items ≡ mail.old.items ++ posted_by (item ∷ []) }
     ensures log { log.new.items ≡ log.old.items ++ lines (item ∷ []) }
-    ensures mail_room { (deque_len mail.new ≤ deque_len mail.old + 1) × (deque_capacity mail.old ≤ deque_capacity mail.new) }
-    ensures log_room { (vec_len log.new ≤ vec_len log.old + 1) × (vec_capacity log.old ≤ vec_capacity log.new) }
+    ensures mail_room { (deque_len mail.new ≤ deque_len mail.old + 1)
+        × (deque_capacity mail.old ≤ deque_capacity mail.new) }
+    ensures log_room { (vec_len log.new ≤ vec_len log.old + 1)
+        × (vec_capacity log.old ≤ vec_capacity log.new) }
 {
     match item {
         Item::Send { to, call } => {

@@ -1,4 +1,5 @@
-ghost use Rattle.std.specs.Prelude.{◌≡◌, ◌+◌, ◌≤◌, [], ◌∷◌, ◌++◌, OnOk, OnErr, vec_len, vec_capacity};
+ghost use Rattle.std.specs.Prelude.{◌≡◌, ◌+◌, ◌≤◌, [], ◌∷◌, ◌++◌, OnOk, OnErr, vec_len};
+ghost use Rattle.std.specs.Prelude.{vec_capacity};
 ghost use Rattle.std.specs.VecDeque.{deque_len, deque_capacity};
 ghost use Rattle.hilti_pool.specs.Hall.{HasSeat, Grows};
 
@@ -53,12 +54,15 @@ impl<B: Body> Model for Pool<B> {
 
     ghost invariant = { λ a.
         let about = B.facts a.body.value in
-        StandsFor (B.effect about) (B.sound about) (B.runs about) a.fed a.limit a.journal.items a.started a.segments a.hall
-        × IfSome a.room (λ items. HasRoom items.value a.hall × (vec_len a.journal + 1 ≤ vec_capacity a.journal)) };
+        StandsFor (B.effect about) (B.sound about) (B.runs about)
+        a.fed a.limit a.journal.items a.started a.segments a.hall
+        × IfSome a.room (λ items. HasRoom items.value a.hall
+        × (vec_len a.journal + 1 ≤ vec_capacity a.journal)) };
 }
 
 impl<B: Body> Pool<B> {
-    ghost use Rattle.std.specs.Prelude.{◌≡◌, ◌≤◌, true, false, Some, None, IsSome, OnOk, OnErr, IfErr};
+    ghost use Rattle.std.specs.Prelude.{◌≡◌, ◌≤◌, true, false, Some, None, IsSome, OnOk, OnErr};
+    ghost use Rattle.std.specs.Prelude.{IfErr};
     ghost use Rattle.hilti_pool.specs.State.{empty, after_feed, end_of};
 
     /// A pool over this body to which nothing happened, where at most `limit` calls may start: 1 to 100,000,000. It
@@ -135,7 +139,8 @@ fn admit<T: Drop>(
     ensures mail { OnOk result (deque_len hall.new.mail + 1 ≤ deque_capacity hall.new.mail) }
     ensures seat { OnOk result (HasSeat hall.new 0) }
     ensures journal { journal.new.items ≡ journal.old.items }
-    ensures journal_room { (vec_len journal.new ≡ vec_len journal.old) × (vec_capacity journal.old ≤ vec_capacity journal.new) }
+    ensures journal_room { (vec_len journal.new ≡ vec_len journal.old)
+        × (vec_capacity journal.old ≤ vec_capacity journal.new) }
     ensures one_more { OnOk result (vec_len journal.new + 1 ≤ vec_capacity journal.new) }
     ensures ok { OnOk result (fed.new ≡ fed.old ++ call.now ∷ []) }
     ensures err { OnErr result (fed.new ≡ fed.old) }

@@ -12,14 +12,16 @@ impl<B: Body> Pool<B> {
     /// The thread that goes on where one worker runs all: the suspended one of least number, else the one whose waiting
     /// call was posted first; `None` exactly where none is suspended and nothing waits. It takes no memory.
     pub fn first_arrived(&self) -> Option<ThreadId>
-        ensures { InCore B.effect self.now (λ c. IsFirst c (option_map (λ thread. thread.n) result)) }
+        ensures { InCore B.effect self.now
+            (λ c. IsFirst c (option_map (λ thread. thread.n) result)) }
     {
         self.hall.first_arrived()
     }
 
     /// The thread that is out at a worker; `None` exactly where none is. It takes no memory.
     pub fn out_at(&self, worker: u32) -> Option<ThreadId>
-        ensures { InCore B.effect self.now (λ c. c.out worker ≡ option_map (λ thread. thread.n) result) }
+        ensures { InCore B.effect self.now (λ c. c.out worker
+            ≡ option_map (λ thread. thread.n) result) }
     {
         self.hall.out_at(worker)
     }
