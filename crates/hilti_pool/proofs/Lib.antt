@@ -1,0 +1,9 @@
+pub mod Plays
+pub mod Mail
+pub mod Seats
+pub mod Moves
+pub mod Homecoming
+pub mod Rooms
+pub mod Causes
+pub mod Items
+pub mod Telling

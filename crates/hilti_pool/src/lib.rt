@@ -1,0 +1,13 @@
+//! The virtual threads of a run: their inboxes and logs, who has which, and the journal of what happened. A pool stands
+//! for the core of its journal at every moment. Calls are fed so far, and a pool tells what waits; threads will be taken
+//! and put back by the hall that is here.
+#![tactic(auto)]
+
+mod hall;
+mod pool;
+mod queries;
+mod seat;
+#[cfg(test)]
+mod tests;
+
+pub use pool::Pool;
