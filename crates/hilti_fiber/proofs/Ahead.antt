@@ -2,9 +2,9 @@
 use Rattle.std.proofs.Common.{◌≡◌, ℕ, zero, suc, ◌<◌, ◌≤◌, ◌-◌, Bool, List, [], ◌∷◌, ◌++◌, map, Option, Some, None, refl, ap, sym, ◌∙◌, subst, arith, append-nil, append_assoc}
 use Rattle.std.proofs.lemmas.List.{map-append}
 use Rattle.hilti_base.specs.declared.names.FnId.{FnId}
-use Rattle.hilti_heap.specs.declared.value.Value.{Value}
-use Rattle.hilti_program.specs.declared.parts.Parts.{Parts}
-use Rattle.hilti_program.specs.declared.parts.Variable.{Variable}
+use Rattle.hilti_scalars.specs.declared.value.Value.{Value}
+use Rattle.hilti_parts.specs.declared.parts.Parts.{Parts}
+use Rattle.hilti_parts.specs.declared.parts.Variable.{Variable}
 use Rattle.hilti_core.specs.declared.pieces.Item.{Item}
 use Rattle.hilti_core.specs.declared.pieces.Item.TheVariants.{Line}
 use Rattle.hilti_core.specs.declared.pieces.End.TheVariants.{Returned, OutOfFuel}

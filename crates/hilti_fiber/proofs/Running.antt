@@ -3,9 +3,9 @@ use Rattle.std.proofs.Common.{◌≡◌, ℕ, Bool, true, false, List, [], ◌�
 use Rattle.std.specs.Option.{option_map}
 use Rattle.hilti_base.specs.declared.names.FnId.{FnId}
 use Rattle.hilti_tree.specs.declared.call.Call.{Call}
-use Rattle.hilti_heap.specs.declared.value.Value.{Value}
-use Rattle.hilti_program.specs.declared.parts.Parts.{Parts}
-use Rattle.hilti_program.specs.declared.parts.Function.{Function}
+use Rattle.hilti_scalars.specs.declared.value.Value.{Value}
+use Rattle.hilti_parts.specs.declared.parts.Parts.{Parts}
+use Rattle.hilti_parts.specs.declared.parts.Function.{Function}
 use Rattle.hilti_core.specs.Body.{Starts}
 use Rattle.hilti_meaning.specs.Calls.{rest}
 use Rattle.hilti_meaning.specs.State.{State}

@@ -2,7 +2,7 @@
 use Rattle.std.specs.Prelude.{◌≡◌, ℕ, List, [], ◌∷◌, ◌++◌, map, Option, Some, None}
 use Rattle.hilti_base.specs.declared.names.FnId.{FnId}
 use Rattle.hilti_tree.specs.declared.call.Call.{Call as Called}
-use Rattle.hilti_program.specs.declared.parts.Parts.{Parts}
+use Rattle.hilti_parts.specs.declared.parts.Parts.{Parts}
 use Rattle.hilti_core.specs.declared.pieces.Item.{Item}
 use Rattle.hilti_core.specs.declared.pieces.Segment.{Segment}
 use Rattle.hilti_frames.specs.declared.frames.Frame.{Frame}

@@ -1,8 +1,8 @@
 -- A step of the machine against what the frame's meaning does next.
 use Rattle.std.specs.Prelude.{◌≡◌, ℕ, ◌+◌, ◌<◌, ◌^◌, Bool, List, [], ◌∷◌}
-use Rattle.hilti_heap.specs.declared.value.Value.{Value}
-use Rattle.hilti_program.specs.declared.parts.Parts.{Parts}
-use Rattle.hilti_program.specs.declared.parts.Instruction.{Instruction}
+use Rattle.hilti_scalars.specs.declared.value.Value.{Value}
+use Rattle.hilti_parts.specs.declared.parts.Parts.{Parts}
+use Rattle.hilti_parts.specs.declared.parts.Instruction.{Instruction}
 use Rattle.hilti_core.specs.declared.pieces.Item.TheVariants.{Line}
 use Rattle.hilti_frames.specs.declared.frames.Frame.{Frame}
 use Rattle.hilti_frames.specs.declared.frames.Frame.TheVariants as frames

@@ -3,8 +3,8 @@ use Rattle.std.specs.Prelude.{◌≡◌, ℕ, zero, suc, Bool, List, [], ◌∷�
 use Rattle.std.specs.Prelude.{None}
 use Rattle.hilti_base.specs.declared.names.FnId.{FnId}
 use Rattle.hilti_tree.specs.declared.call.Call.{Call}
-use Rattle.hilti_heap.specs.declared.value.Value.{Value}
-use Rattle.hilti_program.specs.declared.parts.Parts.{Parts}
+use Rattle.hilti_scalars.specs.declared.value.Value.{Value}
+use Rattle.hilti_parts.specs.declared.parts.Parts.{Parts}
 use Rattle.hilti_core.specs.Core.{Running}
 use Rattle.hilti_frames.specs.declared.frames.Frame.{Frame}
 use Rattle.hilti_frames.specs.declared.frames.Frame.TheVariants as frames

@@ -1,6 +1,6 @@
 //! How calls begin.
 ghost use Rattle.std.specs.Prelude.{◌≡◌, map, IfOk};
-ghost use Rattle.hilti_program.specs.declared.parts.Global.{Global as Declared};
+ghost use Rattle.hilti_parts.specs.declared.parts.Global.{Global as Declared};
 ghost use Rattle.hilti_meaning.specs.Values.{of_tree};
 ghost use Rattle.hilti_fiber.specs.Stacks.{Begins};
 
@@ -9,7 +9,7 @@ use crate::stack::{Calling, Stack};
 use crate::values::tree_value;
 use hilti_base::{FnId, NoMemory};
 use hilti_frames::{Frame, Frames, Variables};
-use hilti_program::{Global as Declared, Parts};
+use hilti_parts::{Global as Declared, Parts};
 use hilti_tree::{Call, Tree};
 use std::alloc::Global;
 

@@ -1,14 +1,14 @@
 //! Where functions begin, and the instructions of a program.
 ghost use Rattle.std.specs.Prelude.{◌≡◌, ◌+◌, ◌<◌, ◌^◌, ◌++◌, map, drop, IfOk, OnOk, OnSome};
 ghost use Rattle.std.specs.Option.{option_copied};
-ghost use Rattle.hilti_program.specs.Typing.{AreShort};
+ghost use Rattle.hilti_runnable.specs.Typing.{AreShort};
 ghost use Rattle.hilti_meaning.specs.Values.{first_value as first_of};
 ghost use Rattle.hilti_meaning.specs.Rows.{entry as entry_of, instruction_at};
 
 use crate::values::first_value;
 use hilti_base::{FnId, NoMemory};
 use hilti_frames::{Frame, Variables};
-use hilti_program::{Function, Instruction, Parts, Variable};
+use hilti_parts::{Function, Instruction, Parts, Variable};
 use hilti_types::ValueType;
 use std::alloc::Global;
 

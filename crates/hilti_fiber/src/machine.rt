@@ -12,7 +12,7 @@ use crate::stack::Calling;
 use hilti_base::{FnId, NoMemory, ThreadId};
 use hilti_core::{Body, Segment};
 use hilti_frames::{Frame, Variables};
-use hilti_program::Program;
+use hilti_runnable::Program;
 use hilti_tree::Call;
 use std::alloc::Global;
 use std::marker::Model;
@@ -29,7 +29,7 @@ impl Model for Machine {
     ghost use Rattle.hilti_types.specs.contracts.value_type.ValueType as kinds;
     ghost use Rattle.hilti_types.specs.contracts.value_type.Inner as objects;
     ghost use Rattle.hilti_tree.specs.contracts.tree.Tree as trees;
-    ghost use Rattle.hilti_program.specs.contracts.parts.Operand as operands;
+    ghost use Rattle.hilti_parts.specs.contracts.parts.Operand as operands;
     ghost use Rattle.hilti_fiber.specs.Threads.{Facts};
 
     ghost Value = { Facts };

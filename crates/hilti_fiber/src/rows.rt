@@ -1,6 +1,6 @@
 //! The instructions that only compute, and where their values go.
 ghost use Rattle.std.specs.Prelude.{◌≡◌, ◌+◌, ◌%◌, ◌^◌, ◌&&◌, ◌||◌, not, nat_lt, cond, IfOk};
-ghost use Rattle.hilti_heap.specs.declared.value.Value.TheVariants as values;
+ghost use Rattle.hilti_scalars.specs.declared.value.Value.TheVariants as values;
 ghost use Rattle.hilti_meaning.specs.Values.{truth as truth_of, whole as whole_of, slots_with};
 ghost use Rattle.hilti_meaning.specs.Values.{globals_with};
 ghost use Rattle.hilti_meaning.specs.Rows.{given_at, apply};
@@ -9,8 +9,8 @@ use crate::operands::given_value;
 use crate::values::{put, truth, whole};
 use hilti_base::NoMemory;
 use hilti_frames::Variables;
-use hilti_heap::Value;
-use hilti_program::{Operands, Variable};
+use hilti_scalars::Value;
+use hilti_parts::{Operands, Variable};
 use hilti_types::Op;
 
 /// `select`

@@ -1,7 +1,7 @@
 //! Instruction after instruction, to the end of a call.
 ghost use Rattle.std.specs.Prelude.{◌≡◌, ℕ, suc, Bool, IfOk};
-ghost use Rattle.hilti_program.specs.declared.parts.Parts.{Parts as Data};
-ghost use Rattle.hilti_program.specs.Typing.{AreShort};
+ghost use Rattle.hilti_parts.specs.declared.parts.Parts.{Parts as Data};
+ghost use Rattle.hilti_runnable.specs.Typing.{AreShort};
 ghost use Rattle.hilti_meaning.specs.Effect.{tell, name_of, spent_line};
 ghost use Rattle.hilti_fiber.specs.Steps.{thread, action_of};
 ghost use Rattle.hilti_fiber.specs.Stacks.{ahead, behind, GoesOn, EndsIn};
@@ -11,7 +11,7 @@ use crate::steps::{Step, act};
 use hilti_base::{Blob, FnId, NoMemory};
 use hilti_core::{End, Item, Items, Segment};
 use hilti_frames::{Frame, Variables};
-use hilti_program::Parts;
+use hilti_parts::Parts;
 use std::alloc::Global;
 
 /// What a step leaves: the next top frame, or `None` where the call ended.

@@ -1,6 +1,6 @@
 //! The frames of a call in progress, and how one goes on when what it called has ended.
 ghost use Rattle.std.specs.Prelude.{◌≡◌, ℕ, Bool, List};
-ghost use Rattle.hilti_program.specs.declared.parts.Parts.{Parts};
+ghost use Rattle.hilti_parts.specs.declared.parts.Parts.{Parts};
 ghost use Rattle.hilti_core.specs.declared.pieces.Item.{Item};
 ghost use Rattle.hilti_meaning.specs.Rows.{resume};
 ghost use Rattle.hilti_meaning.specs.Calls.Back.{On};
@@ -11,8 +11,8 @@ ghost use Rattle.hilti_fiber.specs.Stacks.{return_to, GoesOn};
 use crate::rows::store;
 use hilti_base::FnId;
 use hilti_frames::{Frame, Frames, Variables};
-use hilti_heap::Value;
-use hilti_program::Variable;
+use hilti_scalars::Value;
+use hilti_parts::Variable;
 
 /// What waits below the top frame of a call.
 #[derive(Debug, Drop)]

@@ -1,6 +1,6 @@
 //! One instruction of a function.
 ghost use Rattle.std.specs.Prelude.{◌≡◌, cond, IfOk};
-ghost use Rattle.hilti_program.specs.Typing.{AreShort};
+ghost use Rattle.hilti_runnable.specs.Typing.{AreShort};
 ghost use Rattle.hilti_fiber.specs.Steps.{HasNext, Does, Acts};
 
 use crate::entries::{entry, instruction};
@@ -10,8 +10,8 @@ use crate::texts::print_line;
 use crate::values::truth;
 use hilti_base::{Blob, NoMemory};
 use hilti_frames::{Frame, Variables};
-use hilti_heap::Value;
-use hilti_program::{Instruction, Parts, Variable};
+use hilti_scalars::Value;
+use hilti_parts::{Instruction, Parts, Variable};
 use hilti_types::Op;
 use std::alloc::Global;
 

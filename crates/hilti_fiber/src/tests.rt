@@ -1,16 +1,14 @@
 //! Programs by hand: one that never ends, one that counts, and one whose globals `Main::init` sets.
 ghost use Rattle.std.specs.Prelude.{◌≡◌, ◌+◌, ◌<◌, ◌≤◌, ℕ, List, None, IsTrue, IfOk, length};
 ghost use Rattle.hilti_tree.specs.declared.call.Call.{Call as Called};
-ghost use Rattle.hilti_program.specs.Typing.{AreShort, HasShortLists};
+ghost use Rattle.hilti_runnable.specs.Typing.{AreShort, HasShortLists};
 ghost use Rattle.hilti_fiber.specs.Threads.{runs};
 
 use crate::{Machine, Vthread};
 use hilti_base::{Blob, Collection, FnId, NoMemory, ThreadId};
 use hilti_core::{End, Item, Segment};
-use hilti_program::{
-    Block, Blocks, Exceptions, Function, Functions, Global as Declared, Globals, Handlers, Hooks,
-    Instruction, Instructions, Operand, Operands, Parts, Program, Slots, Variable,
-};
+use hilti_parts::{Block, Blocks, Exceptions, Function, Functions, Global as Declared, Globals, Handlers, Hooks, Instruction, Instructions, Operand, Operands, Parts, Slots, Variable};
+use hilti_runnable::Program;
 use hilti_tree::{Call, Forest, Tree};
 use hilti_types::{Op, TypeTable, ValueType};
 use std::alloc::Global;

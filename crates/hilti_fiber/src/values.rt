@@ -5,7 +5,7 @@ ghost use Rattle.hilti_meaning.specs.Values.{whole as whole_of};
 
 use hilti_base::{Blob, NoMemory};
 use hilti_frames::Variables;
-use hilti_heap::Value;
+use hilti_scalars::Value;
 use hilti_tree::Tree;
 use hilti_types::ValueType;
 use std::alloc::Global;

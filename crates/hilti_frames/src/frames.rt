@@ -3,7 +3,7 @@ ghost use Rattle.std.specs.Prelude.{option_to_list, IsNone};
 
 use crate::variables::Variables;
 use hilti_base::{FnId, NoMemory};
-use hilti_program::Variable;
+use hilti_parts::Variable;
 use std::alloc::Global;
 use std::marker::Model;
 

@@ -1,7 +1,7 @@
 // Variables and frames that are put in and taken out by hand.
 use super::*;
 use hilti_base::FnId;
-use hilti_heap::Value;
+use hilti_scalars::Value;
 use std::test::Fail;
 
 #[test]

@@ -3,7 +3,7 @@ ghost use Rattle.std.specs.Prelude.{OnErr};
 ghost use Rattle.std.specs.Option.{option_copied};
 
 use hilti_base::NoMemory;
-use hilti_heap::Value;
+use hilti_scalars::Value;
 use std::alloc::Global;
 use std::marker::Model;
 
@@ -16,7 +16,7 @@ pub struct Variables {
 
 impl Model for Variables {
     ghost use Rattle.std.specs.Prelude.{List};
-    ghost use Rattle.hilti_heap.specs.declared.value.Value.{Value as Held};
+    ghost use Rattle.hilti_scalars.specs.declared.value.Value.{Value as Held};
 
     ghost Value = { List Held };
 

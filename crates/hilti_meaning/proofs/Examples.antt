@@ -6,14 +6,14 @@ use Rattle.hilti_types.specs.declared.op.Op.{Op}
 use Rattle.hilti_types.specs.declared.op.Op.TheVariants as ops
 use Rattle.hilti_tree.specs.declared.tree.Tree.TheVariants as trees
 use Rattle.hilti_tree.specs.declared.call.Call.{Call}
-use Rattle.hilti_program.specs.declared.parts.Parts.{Parts}
-use Rattle.hilti_program.specs.declared.parts.Function.{Function}
-use Rattle.hilti_program.specs.declared.parts.Global.{Global}
-use Rattle.hilti_program.specs.declared.parts.Block.{Block}
-use Rattle.hilti_program.specs.declared.parts.Instruction.{Instruction}
-use Rattle.hilti_program.specs.declared.parts.Variable.TheVariants as variables
-use Rattle.hilti_program.specs.declared.parts.Operand.{Operand}
-use Rattle.hilti_program.specs.declared.parts.Operand.TheVariants as operands
+use Rattle.hilti_parts.specs.declared.parts.Parts.{Parts}
+use Rattle.hilti_parts.specs.declared.parts.Function.{Function}
+use Rattle.hilti_parts.specs.declared.parts.Global.{Global}
+use Rattle.hilti_parts.specs.declared.parts.Block.{Block}
+use Rattle.hilti_parts.specs.declared.parts.Instruction.{Instruction}
+use Rattle.hilti_parts.specs.declared.parts.Variable.TheVariants as variables
+use Rattle.hilti_parts.specs.declared.parts.Operand.{Operand}
+use Rattle.hilti_parts.specs.declared.parts.Operand.TheVariants as operands
 use Rattle.hilti_core.specs.declared.pieces.Item.TheVariants.{Line}
 use Rattle.hilti_core.specs.declared.pieces.End.TheVariants.{Returned, OutOfFuel}
 use Rattle.hilti_meaning.specs.Calls.{run, exec, rest}

@@ -4,9 +4,9 @@ use Rattle.std.specs.Prelude.{Some, None, slice_get, codes}
 use Rattle.std.specs.Str.{bytes_eq}
 use Rattle.hilti_base.specs.declared.names.FnId.{FnId}
 use Rattle.hilti_tree.specs.declared.call.Call.{Call}
-use Rattle.hilti_program.specs.declared.parts.Parts.{Parts}
-use Rattle.hilti_program.specs.declared.parts.Function.{Function}
-use Rattle.hilti_program.specs.declared.parts.Global.{Global}
+use Rattle.hilti_parts.specs.declared.parts.Parts.{Parts}
+use Rattle.hilti_parts.specs.declared.parts.Function.{Function}
+use Rattle.hilti_parts.specs.declared.parts.Global.{Global}
 use Rattle.hilti_core.specs.declared.pieces.Item.{Item}
 use Rattle.hilti_core.specs.declared.pieces.Item.TheVariants.{Line}
 use Rattle.hilti_core.specs.declared.pieces.Segment.{Segment}

@@ -5,16 +5,16 @@ use Rattle.std.specs.List.{join_by}
 use Rattle.hilti_base.specs.declared.names.FnId.{FnId}
 use Rattle.hilti_types.specs.declared.op.Op.{Op}
 use Rattle.hilti_types.specs.declared.op.Op.TheVariants as ops
-use Rattle.hilti_heap.specs.declared.value.Value.{Value}
-use Rattle.hilti_heap.specs.declared.value.Value.TheVariants as values
-use Rattle.hilti_program.specs.declared.parts.Parts.{Parts}
-use Rattle.hilti_program.specs.declared.parts.Function.{Function}
-use Rattle.hilti_program.specs.declared.parts.Block.{Block}
-use Rattle.hilti_program.specs.declared.parts.Instruction.{Instruction}
-use Rattle.hilti_program.specs.declared.parts.Variable.{Variable}
-use Rattle.hilti_program.specs.declared.parts.Operand.{Operand, out-Operand}
-use Rattle.hilti_program.specs.declared.parts.Operand.TheOpen.{Operand-F}
-use Rattle.hilti_program.specs.declared.parts.Operand.TheVariants as operands
+use Rattle.hilti_scalars.specs.declared.value.Value.{Value}
+use Rattle.hilti_scalars.specs.declared.value.Value.TheVariants as values
+use Rattle.hilti_parts.specs.declared.parts.Parts.{Parts}
+use Rattle.hilti_parts.specs.declared.parts.Function.{Function}
+use Rattle.hilti_parts.specs.declared.parts.Block.{Block}
+use Rattle.hilti_parts.specs.declared.parts.Instruction.{Instruction}
+use Rattle.hilti_parts.specs.declared.parts.Variable.{Variable}
+use Rattle.hilti_parts.specs.declared.parts.Operand.{Operand, out-Operand}
+use Rattle.hilti_parts.specs.declared.parts.Operand.TheOpen.{Operand-F}
+use Rattle.hilti_parts.specs.declared.parts.Operand.TheVariants as operands
 use Rattle.hilti_core.specs.declared.pieces.Item.TheVariants.{Line}
 use Rattle.hilti_frames.specs.declared.frames.Frame.{Frame}
 use Rattle.hilti_frames.specs.declared.frames.Frame.TheVariants as frames

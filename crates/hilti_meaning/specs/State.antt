@@ -2,8 +2,8 @@
 -- way.
 use Rattle.std.specs.Prelude.{ℕ, Bool, List, Option}
 use Rattle.hilti_core.specs.declared.pieces.Item.{Item}
-use Rattle.hilti_heap.specs.declared.value.Value.{Value}
-use Rattle.hilti_program.specs.declared.parts.Variable.{Variable}
+use Rattle.hilti_scalars.specs.declared.value.Value.{Value}
+use Rattle.hilti_parts.specs.declared.parts.Variable.{Variable}
 use Rattle.hilti_frames.specs.declared.frames.Frame.{Frame}
 
 -- a thread: its number, its globals, and whether it began a call before

@@ -6,10 +6,10 @@ use Rattle.hilti_tree.specs.declared.tree.Tree.{Tree}
 use Rattle.hilti_tree.specs.declared.tree.Tree.TheVariants as trees
 use Rattle.hilti_types.specs.declared.value_type.ValueType.{ValueType}
 use Rattle.hilti_types.specs.declared.value_type.ValueType.TheVariants as types
-use Rattle.hilti_heap.specs.declared.value.Value.{Value}
-use Rattle.hilti_heap.specs.declared.value.Value.TheVariants as values
-use Rattle.hilti_program.specs.declared.parts.Variable.{Variable}
-use Rattle.hilti_program.specs.declared.parts.Variable.TheVariants as variables
+use Rattle.hilti_scalars.specs.declared.value.Value.{Value}
+use Rattle.hilti_scalars.specs.declared.value.Value.TheVariants as values
+use Rattle.hilti_parts.specs.declared.parts.Variable.{Variable}
+use Rattle.hilti_parts.specs.declared.parts.Variable.TheVariants as variables
 use Rattle.hilti_print.specs.Texts.{moment_text, escaped_text}
 
 -- what stands where no typed program has a value

@@ -3,10 +3,10 @@ use Rattle.std.proofs.Common.{◌≡◌, refl, ℕ, zero, suc, ◌+◌, ◌<◌,
 use Rattle.std.specs.List.{join_by}
 use Rattle.std.proofs.lemmas.List.{map-append, length-map}
 use Rattle.hilti_tree.specs.declared.call.Call.{Call}
-use Rattle.hilti_heap.specs.declared.value.Value.{Value}
-use Rattle.hilti_heap.specs.declared.value.Value.TheVariants as values
-use Rattle.hilti_program.specs.declared.parts.Parts.{Parts}
-use Rattle.hilti_program.specs.declared.parts.Instruction.{Instruction}
+use Rattle.hilti_scalars.specs.declared.value.Value.{Value}
+use Rattle.hilti_scalars.specs.declared.value.Value.TheVariants as values
+use Rattle.hilti_parts.specs.declared.parts.Parts.{Parts}
+use Rattle.hilti_parts.specs.declared.parts.Instruction.{Instruction}
 use Rattle.hilti_frames.specs.declared.frames.Frame.{Frame}
 use Rattle.hilti_frames.specs.declared.frames.Frame.TheVariants as frames
 use Rattle.hilti_core.specs.declared.pieces.Item.{Item}

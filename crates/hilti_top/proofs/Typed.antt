@@ -4,13 +4,13 @@ use Rattle.std.proofs.lemmas.List.{length-map}
 use Rattle.std.proofs.lemmas.Bool.{lt-ltb}
 use Rattle.std.specs.List.{All, AllByRecursion, position_or_len}
 use Rattle.std.proofs.lemmas.List.Elements.{All-nil, All-append, All-map}
-use Rattle.hilti_program.specs.declared.parts.Parts.{Parts}
-use Rattle.hilti_program.specs.declared.parts.Block.{Block}
-use Rattle.hilti_program.specs.declared.parts.Instruction.{Instruction}
-use Rattle.hilti_program.specs.Givens.{IsGiven, IsBuilt}
-use Rattle.hilti_program.specs.Rows.{is_ending}
-use Rattle.hilti_program.specs.Typing.{IsInstruction, IsBlock, IsFunction, IsGlobal, IsTyped, HasEntry, IsShort, HasShortLists, AreShort}
-use Rattle.hilti_program.proofs.Deciding.{all_one}
+use Rattle.hilti_parts.specs.declared.parts.Parts.{Parts}
+use Rattle.hilti_parts.specs.declared.parts.Block.{Block}
+use Rattle.hilti_parts.specs.declared.parts.Instruction.{Instruction}
+use Rattle.hilti_runnable.specs.Givens.{IsGiven, IsBuilt}
+use Rattle.hilti_runnable.specs.Rows.{is_ending}
+use Rattle.hilti_runnable.specs.Typing.{IsInstruction, IsBlock, IsFunction, IsGlobal, IsTyped, HasEntry, IsShort, HasShortLists, AreShort}
+use Rattle.hilti_runnable.proofs.Deciding.{all_one}
 use Rattle.hilti_top.specs.declared.printing.Parameter.{Parameter}
 use Rattle.hilti_top.specs.declared.printing.Parameter.TheVariants.{Time, Bytes}
 use Rattle.hilti_top.specs.Printing.{AreOperands, ArePrintLines}

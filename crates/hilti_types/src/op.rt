@@ -1,4 +1,4 @@
-/// The mnemonic of an instruction, one variant for each row of the language.
+/// An instruction: one variant for each mnemonic, and one more for each that is exact in modules of version 2.
 #[derive(Clone, Copy, Debug, PartialEq, Eq)]
 pub enum Op {
     /// `nop`
@@ -91,6 +91,18 @@ pub enum Op {
     IntSgt,
     /// `int.as`
     IntAs,
+    /// `int.add` in a module of version 2, which raises ValueError where the result doesn't fit
+    IntAddExact,
+    /// `int.sub` in a module of version 2, which raises ValueError where the result doesn't fit
+    IntSubExact,
+    /// `int.mul` in a module of version 2, which raises ValueError where the result doesn't fit
+    IntMulExact,
+    /// `int.shl` in a module of version 2, which raises ValueError where the result doesn't fit
+    IntShlExact,
+    /// `int.sdiv` in a module of version 2, which raises ValueError where the result doesn't fit
+    IntSdivExact,
+    /// `int.as` in a module of version 2, which raises ValueError where the result doesn't fit
+    IntAsExact,
     /// `bytes.length`
     BytesLength,
     /// `bytes.sub`

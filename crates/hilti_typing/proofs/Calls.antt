@@ -6,8 +6,8 @@ use Rattle.hilti_table.specs.declared.row.Callee.{Callee}
 use Rattle.hilti_table.specs.declared.row.Gives.{Gives}
 use Rattle.hilti_table.specs.declared.row.Kind.TheVariants.{Fixed, Function, Hook, Arguments, Sent}
 use Rattle.hilti_table.specs.declared.row.Plain.{Plain}
-use Rattle.hilti_program.specs.declared.parts.Operand.{Operand}
-use Rattle.hilti_program.specs.Rows.{grouped}
+use Rattle.hilti_parts.specs.declared.parts.Operand.{Operand}
+use Rattle.hilti_parts.specs.Named.{grouped}
 use Rattle.hilti_typing.specs.Context.{Signature, Context, Setting, Known}
 use Rattle.hilti_typing.specs.Types.{plain_type}
 use Rattle.hilti_typing.specs.Fits.{HaveAll, MayBe, Gets, Fit, known_signature, calling, callee, hook}

@@ -14,9 +14,9 @@ use Rattle.hilti_table.specs.declared.row.Kind.TheVariants.{Fixed, Own, Part, Ru
 use Rattle.hilti_table.specs.declared.row.Part.TheVariants as parts
 use Rattle.hilti_table.specs.declared.row.Plain.{Plain}
 use Rattle.hilti_table.specs.declared.row.Test.TheVariants as tests
-use Rattle.hilti_program.specs.declared.parts.Operand.{Operand}
-use Rattle.hilti_program.specs.Givens.{given_kind}
-use Rattle.hilti_program.specs.Rows.{grouped}
+use Rattle.hilti_parts.specs.declared.parts.Operand.{Operand}
+use Rattle.hilti_parts.specs.Named.{given_kind}
+use Rattle.hilti_parts.specs.Named.{grouped}
 use Rattle.hilti_typing.specs.Context.{Setting, Known}
 use Rattle.hilti_typing.specs.Types.{plain_type, rule_of, parts_of, asked_for}
 use Rattle.hilti_typing.specs.Fits.{Has, HasKnown, Matches, Gets, Fit, AsksOwn, AsksRule, AsksQuery, knowing, reading, known_rule, known_part}

@@ -13,10 +13,10 @@ use Rattle.hilti_types.specs.declared.value_type.ValueType.TheVariants as types
 use Rattle.hilti_types.specs.Sendable.{IsSendable, sendable_over, sendables, object_sendable_over, sendable_step, object_sendable_step}
 use Rattle.hilti_table.specs.declared.row.Family.TheVariants as families
 use Rattle.hilti_table.specs.declared.row.Part.TheVariants as parts
-use Rattle.hilti_program.specs.declared.parts.Operand.{Operand, out-roll-Operand}
-use Rattle.hilti_program.specs.declared.parts.Operand.TheOpen.{Operand-F}
-use Rattle.hilti_program.specs.declared.parts.Operand.TheVariants as operands
-use Rattle.hilti_program.specs.Rows.{grouped, in_parentheses}
+use Rattle.hilti_parts.specs.declared.parts.Operand.{Operand, out-roll-Operand}
+use Rattle.hilti_parts.specs.declared.parts.Operand.TheOpen.{Operand-F}
+use Rattle.hilti_parts.specs.declared.parts.Operand.TheVariants as operands
+use Rattle.hilti_parts.specs.Named.{grouped, in_parentheses}
 use Rattle.hilti_typing.specs.Types.{in_family, is_object, object_of}
 use Rattle.hilti_typing.specs.Fits.{Has, HasKnown, HaveAll, Fit, first_width, is_wide, known_part}
 use Rattle.hilti_typing.specs.Context.{Known}

@@ -10,8 +10,8 @@ use Rattle.hilti_table.specs.declared.row.Kind.TheVariants.{Returned, Exception}
 use Rattle.hilti_table.specs.declared.row.Plain.{Plain}
 use Rattle.hilti_table.specs.declared.row.Test.{Test}
 use Rattle.hilti_table.specs.declared.row.Test.TheVariants as tests
-use Rattle.hilti_program.specs.declared.parts.Operand.{Operand}
-use Rattle.hilti_program.specs.Givens.{given_kind}
+use Rattle.hilti_parts.specs.declared.parts.Operand.{Operand}
+use Rattle.hilti_parts.specs.Named.{given_kind}
 use Rattle.hilti_typing.specs.Context.{Setting, Known}
 use Rattle.hilti_typing.specs.Types.{plain_type}
 use Rattle.hilti_typing.specs.Fits.{IsSound, Has, HasKnown, HaveAll, Gets, Fit, AsksOwn}

@@ -15,8 +15,8 @@ use Rattle.hilti_table.specs.declared.row.Part.{Part as PartOf}
 use Rattle.hilti_table.specs.declared.row.Part.TheVariants as parts
 use Rattle.hilti_table.specs.declared.row.Plain.{Plain}
 use Rattle.hilti_table.specs.declared.row.Test.TheVariants as tests
-use Rattle.hilti_program.specs.declared.parts.Operand.{Operand}
-use Rattle.hilti_program.specs.Givens.{given_kind}
+use Rattle.hilti_parts.specs.declared.parts.Operand.{Operand}
+use Rattle.hilti_parts.specs.Named.{given_kind}
 use Rattle.hilti_typing.specs.Context.{Setting, Known}
 use Rattle.hilti_typing.specs.Types.{plain_type, part_of, can_be_made}
 use Rattle.hilti_typing.specs.Fits.{Has, HasKnown, HaveAll, Needs, Gets, Fit, AsksOwn, knowing, known_part, made}

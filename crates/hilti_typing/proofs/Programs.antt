@@ -9,12 +9,12 @@ use Rattle.std.specs.Option.{option_map, option_and_then}
 use Rattle.hilti_types.specs.declared.op.Op.{Op}
 use Rattle.hilti_types.specs.declared.op.Op.TheVariants as ops
 use Rattle.hilti_table.specs.Table.{line_of}
-use Rattle.hilti_program.specs.declared.parts.Parts.{Parts}
-use Rattle.hilti_program.specs.declared.parts.Global.{Global}
-use Rattle.hilti_program.specs.declared.parts.Function.{Function}
-use Rattle.hilti_program.specs.declared.parts.Instruction.{Instruction}
-use Rattle.hilti_program.specs.declared.parts.Operand.{Operand}
-use Rattle.hilti_program.specs.Rows.{named_block, named_function}
+use Rattle.hilti_parts.specs.declared.parts.Parts.{Parts}
+use Rattle.hilti_parts.specs.declared.parts.Global.{Global}
+use Rattle.hilti_parts.specs.declared.parts.Function.{Function}
+use Rattle.hilti_parts.specs.declared.parts.Instruction.{Instruction}
+use Rattle.hilti_parts.specs.declared.parts.Operand.{Operand}
+use Rattle.hilti_parts.specs.Named.{named_block, named_function}
 use Rattle.hilti_typing.specs.Context.{Signature, Context}
 use Rattle.hilti_typing.specs.Fits.{HaveAll, MayTake, FitsRow, callee, setting}
 use Rattle.hilti_typing.specs.Facts.{CalledWith}

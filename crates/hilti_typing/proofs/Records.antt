@@ -11,9 +11,9 @@ use Rattle.hilti_table.specs.declared.row.Family.TheVariants as families
 use Rattle.hilti_table.specs.declared.row.Gives.{Gives}
 use Rattle.hilti_table.specs.declared.row.Kind.TheVariants.{Own, Field, Same, Parts, Index}
 use Rattle.hilti_table.specs.declared.row.Test.TheVariants as tests
-use Rattle.hilti_program.specs.declared.parts.Operand.{Operand}
-use Rattle.hilti_program.specs.Givens.{given_kind}
-use Rattle.hilti_program.specs.Rows.{grouped}
+use Rattle.hilti_parts.specs.declared.parts.Operand.{Operand}
+use Rattle.hilti_parts.specs.Named.{given_kind}
+use Rattle.hilti_parts.specs.Named.{grouped}
 use Rattle.hilti_typing.specs.Context.{Context, Setting, Known}
 use Rattle.hilti_typing.specs.Types.{item_of}
 use Rattle.hilti_typing.specs.Fits.{Has, HasKnown, Needs, Gets, Fit, AsksOwn, AreParts, knowing, known_type}

@@ -3,8 +3,8 @@ use Rattle.std.specs.Prelude.{ℕ, Bool, List, Option, slice_get}
 use Rattle.hilti_types.specs.declared.declared.Declared.{Declared}
 use Rattle.hilti_types.specs.declared.declared.OverlayField.{OverlayField}
 use Rattle.hilti_types.specs.declared.value_type.ValueType.{ValueType}
-use Rattle.hilti_program.specs.declared.parts.Variable.{Variable}
-use Rattle.hilti_program.specs.declared.parts.Variable.TheVariants as variables
+use Rattle.hilti_parts.specs.declared.parts.Variable.{Variable}
+use Rattle.hilti_parts.specs.declared.parts.Variable.TheVariants as variables
 
 -- the types of what a function takes and gives; a hook gives nothing
 pub record Signature : Type 0 where

@@ -5,9 +5,9 @@ use Rattle.hilti_types.specs.declared.op.Op.TheVariants as ops
 use Rattle.hilti_types.specs.declared.value_type.Inner.TheVariants as inners
 use Rattle.hilti_types.specs.declared.value_type.ValueType.{ValueType}
 use Rattle.hilti_types.specs.declared.value_type.ValueType.TheVariants as types
-use Rattle.hilti_program.specs.declared.parts.Operand.{Operand}
-use Rattle.hilti_program.specs.declared.parts.Operand.TheVariants as operands
-use Rattle.hilti_program.specs.declared.parts.Variable.TheVariants as variables
+use Rattle.hilti_parts.specs.declared.parts.Operand.{Operand}
+use Rattle.hilti_parts.specs.declared.parts.Operand.TheVariants as operands
+use Rattle.hilti_parts.specs.declared.parts.Variable.TheVariants as variables
 use Rattle.hilti_typing.specs.Context.{Signature, Context}
 use Rattle.hilti_typing.specs.Fits.{IsTypedLine}
 

@@ -13,8 +13,8 @@ use Rattle.hilti_table.specs.declared.row.Callee.{Callee}
 use Rattle.hilti_table.specs.declared.row.Family.{Family}
 use Rattle.hilti_table.specs.declared.row.Plain.{Plain}
 use Rattle.hilti_table.specs.declared.row.Test.{Test}
-use Rattle.hilti_program.specs.declared.parts.Operand.{Operand}
-use Rattle.hilti_program.specs.Rows.{grouped, named_block}
+use Rattle.hilti_parts.specs.declared.parts.Operand.{Operand}
+use Rattle.hilti_parts.specs.Named.{grouped, named_block}
 use Rattle.hilti_typing.specs.Context.{Signature, Context, Setting}
 use Rattle.hilti_typing.specs.Types.{plain_type, in_family, passes, can_be_made, parts_of}
 use Rattle.hilti_typing.specs.Types.{asked_for}

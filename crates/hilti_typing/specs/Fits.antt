@@ -30,10 +30,10 @@ use Rattle.hilti_table.specs.declared.row.Row.{Row}
 use Rattle.hilti_table.specs.declared.row.Test.{Test}
 use Rattle.hilti_table.specs.Rows.{IsCount, kinds}
 use Rattle.hilti_table.specs.Table.{line_of}
-use Rattle.hilti_program.specs.declared.parts.Operand.{Operand}
-use Rattle.hilti_program.specs.declared.parts.Operand.TheVariants as operands
-use Rattle.hilti_program.specs.Givens.{given_kind}
-use Rattle.hilti_program.specs.Rows.{named_block, named_function, grouped}
+use Rattle.hilti_parts.specs.declared.parts.Operand.{Operand}
+use Rattle.hilti_parts.specs.declared.parts.Operand.TheVariants as operands
+use Rattle.hilti_parts.specs.Named.{given_kind}
+use Rattle.hilti_parts.specs.Named.{named_block, named_function, grouped}
 use Rattle.hilti_typing.specs.Context.{Signature, Context, Setting, Known, variable_type}
 use Rattle.hilti_typing.specs.Types.{plain_type, passes, may_be_null, is_int, object_of, iterated}
 use Rattle.hilti_typing.specs.Types.{part_of, item_of, parts_of, rule_of, asked_for, can_be_made}

@@ -26,7 +26,7 @@ use Rattle.hilti_table.specs.declared.row.Takes.TheVariants as takes
 use Rattle.hilti_table.specs.declared.row.Test.{Test}
 use Rattle.hilti_table.specs.declared.row.Test.TheVariants as tests
 use Rattle.hilti_table.specs.Table.{line_of}
-use Rattle.hilti_program.specs.declared.parts.Operand.{Operand}
+use Rattle.hilti_parts.specs.declared.parts.Operand.{Operand}
 use Rattle.hilti_typing.specs.Context.{Setting, Known}
 use Rattle.hilti_typing.specs.Types.{plain_type, passes, item_of}
 use Rattle.hilti_typing.specs.Fits.{Has, HaveAll, Gets, FitsRow, MayBe, Needs, callee, hook, given}

@@ -3,15 +3,15 @@ use Rattle.std.specs.Prelude.{◌≡◌, ◌↔◌, ℕ, ◌+◌, ◌<◌, IsTru
 use Rattle.std.specs.Prelude.{slice_get, Some}
 use Rattle.std.specs.Option.{option_map}
 use Rattle.hilti_types.specs.declared.op.Op.TheVariants as ops
-use Rattle.hilti_program.specs.declared.parts.Parts.{Parts}
-use Rattle.hilti_program.specs.declared.parts.Global.{Global}
-use Rattle.hilti_program.specs.declared.parts.Function.{Function}
-use Rattle.hilti_program.specs.declared.parts.Block.{Block}
-use Rattle.hilti_program.specs.declared.parts.Handler.{Handler}
-use Rattle.hilti_program.specs.declared.parts.Instruction.{Instruction}
-use Rattle.hilti_program.specs.declared.parts.Operand.{Operand}
-use Rattle.hilti_program.specs.declared.parts.Variable.TheVariants as variables
-use Rattle.hilti_program.specs.Rows.{named_block, named_function, grouped}
+use Rattle.hilti_parts.specs.declared.parts.Parts.{Parts}
+use Rattle.hilti_parts.specs.declared.parts.Global.{Global}
+use Rattle.hilti_parts.specs.declared.parts.Function.{Function}
+use Rattle.hilti_parts.specs.declared.parts.Block.{Block}
+use Rattle.hilti_parts.specs.declared.parts.Handler.{Handler}
+use Rattle.hilti_parts.specs.declared.parts.Instruction.{Instruction}
+use Rattle.hilti_parts.specs.declared.parts.Operand.{Operand}
+use Rattle.hilti_parts.specs.declared.parts.Variable.TheVariants as variables
+use Rattle.hilti_parts.specs.Named.{named_block, named_function, grouped}
 use Rattle.hilti_typing.specs.Context.{Context, variable_type}
 use Rattle.hilti_typing.specs.Fits.{HaveAll, MayTake}
 use Rattle.hilti_typing.specs.Programs.{context, is_ending, IsTypedInstruction, IsTypedHandler}

@@ -7,17 +7,17 @@ use Rattle.hilti_types.specs.declared.value_type.ValueType.{ValueType}
 use Rattle.hilti_types.specs.declared.value_type.ValueType.TheVariants as types
 use Rattle.hilti_table.specs.Rows.{ends_block}
 use Rattle.hilti_table.specs.Table.{line_of}
-use Rattle.hilti_program.specs.declared.parts.Parts.{Parts}
-use Rattle.hilti_program.specs.declared.parts.Global.{Global}
-use Rattle.hilti_program.specs.declared.parts.Exception.{Exception}
-use Rattle.hilti_program.specs.declared.parts.Hook.{Hook}
-use Rattle.hilti_program.specs.declared.parts.Function.{Function}
-use Rattle.hilti_program.specs.declared.parts.Block.{Block}
-use Rattle.hilti_program.specs.declared.parts.Handler.{Handler}
-use Rattle.hilti_program.specs.declared.parts.Instruction.{Instruction}
-use Rattle.hilti_program.specs.declared.parts.Operand.{Operand}
-use Rattle.hilti_program.specs.declared.parts.Variable.{Variable}
-use Rattle.hilti_program.specs.Rows.{named_function}
+use Rattle.hilti_parts.specs.declared.parts.Parts.{Parts}
+use Rattle.hilti_parts.specs.declared.parts.Global.{Global}
+use Rattle.hilti_parts.specs.declared.parts.Exception.{Exception}
+use Rattle.hilti_parts.specs.declared.parts.Hook.{Hook}
+use Rattle.hilti_parts.specs.declared.parts.Function.{Function}
+use Rattle.hilti_parts.specs.declared.parts.Block.{Block}
+use Rattle.hilti_parts.specs.declared.parts.Handler.{Handler}
+use Rattle.hilti_parts.specs.declared.parts.Instruction.{Instruction}
+use Rattle.hilti_parts.specs.declared.parts.Operand.{Operand}
+use Rattle.hilti_parts.specs.declared.parts.Variable.{Variable}
+use Rattle.hilti_parts.specs.Named.{named_function}
 use Rattle.hilti_typing.specs.Context.{Signature, Context, variable_type}
 use Rattle.hilti_typing.specs.Fits.{IsValue, IsTypedLine}
 

@@ -2,8 +2,8 @@
 ghost use Rattle.std.specs.Prelude.{ℕ};
 ghost use Rattle.hilti_types.specs.declared.value_type.Inner.TheVariants as inners;
 ghost use Rattle.hilti_table.specs.declared.row.Family.TheVariants as families;
-ghost use Rattle.hilti_program.specs.declared.parts.Function.{Function as Body};
-ghost use Rattle.hilti_program.specs.declared.parts.Parts.{Parts as Whole};
+ghost use Rattle.hilti_parts.specs.declared.parts.Function.{Function as Body};
+ghost use Rattle.hilti_parts.specs.declared.parts.Parts.{Parts as Whole};
 ghost use Rattle.hilti_typing.specs.Examples.{FittingLines, RefusedLines};
 ghost use Rattle.hilti_typing.specs.Laws.{PlainRows, NumberRows, OwnRows, FlowRows, CallRows};
 ghost use Rattle.hilti_typing.specs.Laws.{ObjectRows, ItemRows, MapRows, StructRows, TupleRows};

@@ -1,5 +1,5 @@
 use Rattle.std.proofs.Common.{◌≡◌, map, take}
-use Rattle.hilti_program.specs.declared.parts.Global.{Global}
+use Rattle.hilti_parts.specs.declared.parts.Global.{Global}
 use Rattle.hilti_meaning.specs.Values.{of_tree}
 use Rattle.hilti_fiber.proofs.calls.first_globals.Given as goal
 
