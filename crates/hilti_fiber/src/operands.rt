@@ -7,8 +7,8 @@ ghost use Rattle.hilti_meaning.specs.Rows.{given, given_at, block_of, function_o
 use crate::values::{copy_value, tree_value};
 use hilti_base::{FnId, NoMemory};
 use hilti_frames::Variables;
-use hilti_scalars::Value;
 use hilti_parts::{Operand, Operands, Variable};
+use hilti_scalars::Value;
 use std::alloc::Global;
 
 /// The value of a variable; `None` exactly where there is no such variable.

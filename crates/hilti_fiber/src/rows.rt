@@ -9,8 +9,8 @@ use crate::operands::given_value;
 use crate::values::{put, truth, whole};
 use hilti_base::NoMemory;
 use hilti_frames::Variables;
-use hilti_scalars::Value;
 use hilti_parts::{Operands, Variable};
+use hilti_scalars::Value;
 use hilti_types::Op;
 
 /// `select`

@@ -11,8 +11,8 @@ ghost use Rattle.hilti_fiber.specs.Stacks.{return_to, GoesOn};
 use crate::rows::store;
 use hilti_base::FnId;
 use hilti_frames::{Frame, Frames, Variables};
-use hilti_scalars::Value;
 use hilti_parts::Variable;
+use hilti_scalars::Value;
 
 /// What waits below the top frame of a call.
 #[derive(Debug, Drop)]

@@ -10,8 +10,8 @@ use crate::texts::print_line;
 use crate::values::truth;
 use hilti_base::{Blob, NoMemory};
 use hilti_frames::{Frame, Variables};
-use hilti_scalars::Value;
 use hilti_parts::{Instruction, Parts, Variable};
+use hilti_scalars::Value;
 use hilti_types::Op;
 use std::alloc::Global;
 

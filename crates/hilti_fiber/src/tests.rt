@@ -1,4 +1,4 @@
-//! Programs by hand: one that never ends, one that counts, and one whose globals `Main::init` sets.
+//! Programs by hand: one that never ends, and one whose globals `Main::init` sets.
 ghost use Rattle.std.specs.Prelude.{◌≡◌, ◌+◌, ◌<◌, ◌≤◌, ℕ, List, None, IsTrue, IfOk, length};
 ghost use Rattle.hilti_tree.specs.declared.call.Call.{Call as Called};
 ghost use Rattle.hilti_runnable.specs.Typing.{AreShort, HasShortLists};
@@ -7,7 +7,10 @@ ghost use Rattle.hilti_fiber.specs.Threads.{runs};
 use crate::{Machine, Vthread};
 use hilti_base::{Blob, Collection, FnId, NoMemory, ThreadId};
 use hilti_core::{End, Item, Segment};
-use hilti_parts::{Block, Blocks, Exceptions, Function, Functions, Global as Declared, Globals, Handlers, Hooks, Instruction, Instructions, Operand, Operands, Parts, Slots, Variable};
+use hilti_parts::{
+    Block, Blocks, Exceptions, Function, Functions, Global as Declared, Globals, Handlers, Hooks,
+    Instruction, Instructions, Operand, Operands, Parts, Slots, Variable,
+};
 use hilti_runnable::Program;
 use hilti_tree::{Call, Forest, Tree};
 use hilti_types::{Op, TypeTable, ValueType};
@@ -33,10 +36,6 @@ fn word() -> ValueType {
 
 fn variable(v: Variable, kind: ValueType) -> Operand {
     Operand::Var { v, kind }
-}
-
-fn slot(n: u32, kind: ValueType) -> Operand {
-    variable(Variable::Slot { n }, kind)
 }
 
 fn number(n: u64) -> Operand {
@@ -217,77 +216,11 @@ fn spends_its_fuel(rt: HostRuntime) -> Result<(), Fail> {
     Ok(())
 }
 
-/// Puts what the second function gives on an argument into a slot.
-fn count(alloc: Global, n: u32, argument: Operand) -> Result<Instruction, NoMemory> {
-    let items = one(alloc, argument)?;
-    let operands = two(
-        alloc,
-        Operand::Function { f: FnId { n: 1 } },
-        Operand::Group { items },
-    )?;
-    Ok(set(Variable::Slot { n }, word(), Op::Call, operands))
-}
-
-/// Chooses the second block where the argument is above 4, and else the third.
-fn choice(alloc: Global) -> Result<Block, NoMemory> {
-    let numbers = two(alloc, number(4), slot(0, word()))?;
-    let compare = set(Variable::Slot { n: 1 }, ValueType::Bool, Op::IntLt, numbers);
-    let mut operands = two(alloc, slot(1, ValueType::Bool), Operand::Block { n: 1 })?;
-    operands.push(Operand::Block { n: 2 })?;
-    let instructions = two(alloc, compare, plain(Op::IfElse, operands))?;
-    Ok(block(alloc, instructions))
-}
-
-fn giving(alloc: Global, n: u32) -> Result<Instruction, NoMemory> {
-    let operands = one(alloc, slot(n, word()))?;
-    Ok(plain(Op::ReturnResult, operands))
-}
-
-/// Counts on from one more.
-fn counting_on(alloc: Global) -> Result<Block, NoMemory> {
-    let numbers = two(alloc, slot(0, word()), number(1))?;
-    let add = set(Variable::Slot { n: 2 }, word(), Op::IntAdd, numbers);
-    let mut instructions = two(alloc, add, count(alloc, 2, slot(2, word()))?)?;
-    instructions.push(giving(alloc, 2)?)?;
-    Ok(block(alloc, instructions))
-}
-
-/// Gives its argument where it is above 4, and else what it gives on one more.
-fn counter(alloc: Global) -> Result<Function, NoMemory> {
-    let mut slots = two(alloc, word(), ValueType::Bool)?;
-    slots.push(word())?;
-    let give = one(alloc, giving(alloc, 0)?)?;
-    let mut blocks = two(alloc, choice(alloc)?, block(alloc, give))?;
-    blocks.push(counting_on(alloc)?)?;
-    Ok(function(alloc, b"Main::f", 1, slots, Some(word()), blocks)?)
-}
-
 /// Prints a variable and returns.
 fn printing(alloc: Global, v: Variable) -> Result<Instructions, NoMemory> {
     let shown = one(alloc, variable(v, word()))?;
     let none = Operands::new(alloc);
     Ok(two(alloc, plain(Op::Print, shown), plain(Op::ReturnVoid, none))?)
-}
-
-/// Counts from 0 and prints the result.
-fn counting(alloc: Global) -> Result<Functions, NoMemory> {
-    let mut instructions = one(alloc, count(alloc, 2, number(0))?)?;
-    for instruction in printing(alloc, Variable::Slot { n: 2 })?.into_vec() {
-        instructions.push(instruction)?;
-    }
-    let blocks = one(alloc, block(alloc, instructions))?;
-    Ok(two(alloc, packet(alloc, blocks)?, counter(alloc)?)?)
-}
-
-#[test]
-fn counts(rt: HostRuntime) -> Result<(), Fail> {
-    let alloc = rt.alloc();
-    let machine = machine(alloc, Globals::new(alloc), counting(alloc)?, 1000)?;
-    let mut vt = machine.fresh(alloc, ThreadId { n: 0 })?;
-    let segment = run_packet(&machine, &mut vt, alloc, 0, 0)?;
-    assert_eq!(rt; segment.end, End::Returned);
-    assert_lines(&rt, &segment, &[b"5"]);
-    Ok(())
 }
 
 /// Adds 1 to the first global.

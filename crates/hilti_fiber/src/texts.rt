@@ -7,9 +7,9 @@ ghost use Rattle.hilti_meaning.specs.Rows.{given};
 use crate::operands::operand_value;
 use hilti_base::{Blob, NoMemory};
 use hilti_frames::Variables;
-use hilti_scalars::Value;
-use hilti_print::{escaped, moment, number};
 use hilti_parts::Operand;
+use hilti_print::{escaped, moment, number};
+use hilti_scalars::Value;
 use std::alloc::Global;
 
 /// The text of a value.

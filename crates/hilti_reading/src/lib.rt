@@ -3,7 +3,3 @@
 #![tactic(auto)]
 
 pub mod laws;
-#[cfg(test)]
-mod link_tests;
-#[cfg(test)]
-mod scope_tests;

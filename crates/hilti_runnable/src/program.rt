@@ -4,9 +4,9 @@ ghost use Rattle.std.specs.Option.{option_map};
 ghost use Rattle.hilti_base.specs.declared.names.FnId.{FnId as Id};
 ghost use Rattle.hilti_parts.specs.declared.parts.Function.{Function as Body};
 
-use hilti_parts::{Function, Parts};
 use crate::typing::{find_entry, first_named, is_typed};
 use hilti_base::FnId;
+use hilti_parts::{Function, Parts};
 use std::marker::Model;
 
 /// The parts of a program that keep every rule of typing, with the function that each packet is handed to. Contracts

@@ -11,8 +11,8 @@ ghost use Rattle.hilti_runnable.specs.Typing.{HasTarget, IsInstruction, IsBlock,
 ghost use Rattle.hilti_runnable.specs.Typing.{IsGlobal, IsTyped, IsEntry};
 
 use crate::givens::{is_built, is_literal, kind_of_variable};
-use hilti_parts::{Block, Function, Global, Instruction, Parts, Variable};
 use crate::rows::{ends_block, is_row, is_void, parameters};
+use hilti_parts::{Block, Function, Global, Instruction, Parts, Variable};
 use hilti_types::{ValueType, same};
 
 /// Whether a target is a variable of a type, or none where no type is there.

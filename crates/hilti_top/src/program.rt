@@ -5,7 +5,10 @@ ghost use Rattle.hilti_top.specs.Program.{function_of, parts_of, print_of, retur
 
 use crate::printing::{Parameter, PrintLines};
 use hilti_base::{Blob, NoMemory};
-use hilti_parts::{Block, Blocks, Exceptions, Function, Functions, Globals, Handlers, Hooks, Instruction, Instructions, Operand, Operands, Parts, Slots, Variable};
+use hilti_parts::{
+    Block, Blocks, Exceptions, Function, Functions, Globals, Handlers, Hooks, Instruction,
+    Instructions, Operand, Operands, Parts, Slots, Variable,
+};
 use hilti_runnable::Program;
 use hilti_types::{Op, TypeTable, ValueType};
 use std::alloc::Global;

@@ -1,6 +1,7 @@
-// Types that are the same, types that differ in one word, and each kind of type as a key, sent, and by its depth.
+// Types that are the same and types that differ in one word, kinds of types, and a table of structs that name one
+// another often.
 use super::*;
-use hilti_base::{Blob, Names, NoMemory};
+use hilti_base::{Blob, NoMemory};
 use sqlite_items::Boxed;
 use std::alloc::Global;
 use std::test::Fail;
@@ -28,145 +29,32 @@ fn every_part_tells(rt: HostRuntime) -> Result<(), Fail> {
     Ok(())
 }
 
-/// A struct `P` with a `port`, an enum `E`, a struct `Q` with a `P` and a list of `E`, and a struct `C` with a
-/// callable.
-fn table(alloc: Global) -> Result<TypeTable, NoMemory> {
-    let mut types = TypeTable::new(alloc);
-    let mut fields = Members::new(alloc);
-    fields.push(Member {
-        name: Blob::of(alloc, b"port")?,
-        kind: ValueType::Port,
-    })?;
-    types.push(Declared::Struct {
-        name: Blob::of(alloc, b"P")?,
-        fields,
-    })?;
-    let mut words = Names::new(alloc);
-    words.push(Blob::of(alloc, b"One")?)?;
-    types.push(Declared::Enum {
-        name: Blob::of(alloc, b"E")?,
-        words,
-    })?;
-    let mut fields = Members::new(alloc);
-    fields.push(Member {
-        name: Blob::of(alloc, b"p")?,
-        kind: reference(Inner::Struct { n: 0 }),
-    })?;
-    let item = Boxed::new(alloc, ValueType::Enum { n: 1 })?;
-    fields.push(Member {
-        name: Blob::of(alloc, b"es")?,
-        kind: reference(Inner::List { item }),
-    })?;
-    types.push(Declared::Struct {
-        name: Blob::of(alloc, b"Q")?,
-        fields,
-    })?;
-    let mut fields = Members::new(alloc);
-    fields.push(Member {
-        name: Blob::of(alloc, b"call")?,
-        kind: ValueType::Callable,
-    })?;
-    types.push(Declared::Struct {
-        name: Blob::of(alloc, b"C")?,
-        fields,
-    })?;
-    Ok(types)
+/// Whether a type is a key, whether it is sendable, and how deep it nests.
+fn judged(alloc: Global, kind: &ValueType) -> (bool, bool, u32) {
+    let none = TypeTable::new(alloc);
+    (
+        is_key(&none, kind),
+        is_sendable(&none, kind),
+        depth(&none, kind),
+    )
+}
+
+#[test]
+fn kinds_of_types_are_judged(rt: HostRuntime) -> Result<(), Fail> {
+    let alloc = rt.alloc();
+    assert_eq!(rt; judged(alloc, &ValueType::Text), (true, true, 1));
+    assert_eq!(rt; judged(alloc, &ValueType::Callable), (false, false, 1));
+    let tuple = record(alloc, 8, ValueType::Port)?;
+    assert_eq!(rt; judged(alloc, &tuple), (false, true, 3));
+    let over = Inner::List {
+        item: Boxed::new(alloc, ValueType::Bool)?,
+    };
+    assert_eq!(rt; judged(alloc, &ValueType::Iter { over }), (false, false, 3));
+    Ok(())
 }
 
 fn reference(to: Inner) -> ValueType {
     ValueType::Ref { to }
-}
-
-fn pair(alloc: Global, left: ValueType, right: ValueType) -> Result<ValueType, NoMemory> {
-    let mut parts = ValueTypes::new(alloc);
-    parts.push(left)?;
-    parts.push(right)?;
-    Ok(ValueType::Tuple { parts })
-}
-
-/// `ref<list<ITEM>>`.
-fn list(alloc: Global, item: ValueType) -> Result<ValueType, NoMemory> {
-    Ok(reference(Inner::List {
-        item: Boxed::new(alloc, item)?,
-    }))
-}
-
-#[test]
-fn keys_are_sendable(rt: HostRuntime) -> Result<(), Fail> {
-    let types = table(rt.alloc())?;
-    let keys = [
-        ValueType::Bool,
-        ValueType::Int { bits: 8 },
-        ValueType::Text,
-        ValueType::Bytes,
-        ValueType::Addr,
-        ValueType::Net,
-        ValueType::Port,
-        ValueType::Time,
-        ValueType::Span,
-        ValueType::Enum { n: 1 },
-        pair(rt.alloc(), ValueType::Net, ValueType::Enum { n: 1 })?,
-    ];
-    for key in &keys {
-        assert!(rt; is_key(&types, key));
-        assert!(rt; is_sendable(&types, key));
-    }
-    Ok(())
-}
-
-#[test]
-fn references_are_no_keys(rt: HostRuntime) -> Result<(), Fail> {
-    let types = table(rt.alloc())?;
-    assert!(rt; is_sendable(&types, &reference(Inner::Struct { n: 0 })));
-    assert!(rt; is_sendable(&types, &reference(Inner::Struct { n: 2 })));
-    assert!(rt; !is_key(&types, &reference(Inner::Struct { n: 2 })));
-    assert!(rt; is_sendable(&types, &list(rt.alloc(), ValueType::Text)?));
-    Ok(())
-}
-
-#[test]
-fn what_stays(rt: HostRuntime) -> Result<(), Fail> {
-    let types = table(rt.alloc())?;
-    assert!(rt; !is_sendable(&types, &ValueType::Callable));
-    assert!(rt; !is_key(&types, &ValueType::Callable));
-    assert!(rt; !is_sendable(&types, &reference(Inner::Timer)));
-    assert!(rt; !is_sendable(&types, &reference(Inner::Manager)));
-    assert!(rt; !is_sendable(&types, &reference(Inner::Struct { n: 3 })));
-    Ok(())
-}
-
-#[test]
-fn parts_stay(rt: HostRuntime) -> Result<(), Fail> {
-    let types = table(rt.alloc())?;
-    let over = Inner::List {
-        item: Boxed::new(rt.alloc(), ValueType::Bool)?,
-    };
-    assert!(rt; !is_sendable(&types, &ValueType::Iter { over }));
-    assert!(rt; !is_sendable(&types, &list(rt.alloc(), ValueType::Callable)?));
-    Ok(())
-}
-
-#[test]
-fn depths_count_levels(rt: HostRuntime) -> Result<(), Fail> {
-    let types = TypeTable::new(rt.alloc());
-    assert!(rt; depth(&types, &ValueType::Callable) == 1);
-    let manager = ValueType::Ref { to: Inner::Manager };
-    assert!(rt; depth(&types, &manager) == 1);
-    let item = Boxed::new(rt.alloc(), ValueType::Bool)?;
-    let booleans = ValueType::Ref {
-        to: Inner::List { item },
-    };
-    assert!(rt; depth(&types, &booleans) == 2);
-    let item = Boxed::new(rt.alloc(), booleans)?;
-    assert!(rt;
-        depth(
-            &types,
-            &ValueType::Iter {
-                over: Inner::Vector { item }
-            }
-        ) == 4
-    );
-    Ok(())
 }
 
 fn field(alloc: Global, kind: ValueType) -> Result<Member, NoMemory> {
