@@ -1,12 +1,15 @@
 -- Looking a mnemonic up.
 use Rattle.std.proofs.Common.{◌≡◌, refl, ℕ, suc, ◌+◌, ◌<◌, ◌≤◌, Bool, true, false, cond, List, [], ◌∷◌}
 use Rattle.std.proofs.Common.{length, drop, get_or, sym, ◌∙◌, ap, bytes_eq, add-one, drop-cons}
-use Rattle.std.proofs.Common.{Option, Some, None, find, Bor}
+use Rattle.std.proofs.Common.{Option, Some, None, find, is_some, ◌||◌, Bor}
+use Rattle.std.specs.List.{list_any}
+use Rattle.std.proofs.lemmas.Bool.{false≢true}
 use Rattle.std.proofs.lemmas.List.{drop_all}
 use Rattle.std.proofs.lemmas.Slice.Eq.{bytes_eq-Decides}
 use Rattle.hilti_types.specs.declared.op.Op.{Op}
+use Rattle.hilti_table.specs.Exact.{is_exact}
 use Rattle.hilti_table.specs.Mnemonics.{named, IsWrittenSo}
-use Rattle.hilti_table.specs.Table.{line_of, every}
+use Rattle.hilti_table.specs.Table.{line_of, every_plain}
 use Rattle.hilti_table.proofs.Each.{found}
 
 -- what is found passes the test
@@ -19,12 +22,33 @@ find_passes : {X : Type 0} (p : X → Bool) (xs : List X) (x : X) → find p xs 
 find_passes p [] x e = cc
 find_passes p (y ∷ ys) x e = in_front p y x (find p ys) (p y) refl e (find_passes p ys x)
 
--- what a mnemonic means is written so, and no other instruction is
+none_of : {X : Type 0} (q : X → Bool) (y x : X) (rest : Option X) (b c : Bool) → cond b (Some y) rest ≡ Some x → q y ≡ c → (others : Bool) →
+    c || others ≡ false → (rest ≡ Some x → others ≡ false → q x ≡ false) → q x ≡ false
+none_of q y x rest b true e is others none further = absurd (false≢true (sym none))
+none_of q y x rest true false e is others none further = ap q (sym (same e)) ∙ is
+  where
+    same : Some y ≡ Some x → y ≡ x
+    same e = cc
+none_of q y x rest false false e is others none further = further e none
+
+-- what none passes, what is found doesn't pass
+find_fails : {X : Type 0} (p q : X → Bool) (xs : List X) (x : X) → find p xs ≡ Some x → list_any q xs ≡ false → q x ≡ false
+find_fails p q [] x e none = absurd (false≢true (ap is_some e))
+find_fails p q (y ∷ ys) x e none =
+    none_of q y x (find p ys) (p y) (q y) e refl (list_any q ys) none (find_fails p q ys x)
+
+no_exact : list_any is_exact every_plain ≡ false
+no_exact = refl
+
+-- what a mnemonic means is plain and written so, and no other plain instruction is
 pub written_so : (mnemonic : List ℕ) → IsWrittenSo (named mnemonic) mnemonic
 unfolding named
 written_so mnemonic op = (
-  (λ e. (bytes_eq-Decides (line_of op).mnemonic mnemonic).0 (find_passes (λ o. bytes_eq (line_of o).mnemonic mnemonic) every op e)),
-  (λ e. ap named (sym e) ∙ found op),
+  (λ e. record {
+    plain = find_fails (λ o. bytes_eq (line_of o).mnemonic mnemonic) is_exact every_plain op e no_exact;
+    written = (bytes_eq-Decides (line_of op).mnemonic mnemonic).0 (find_passes (λ o. bytes_eq (line_of o).mnemonic mnemonic) every_plain op e);
+  }),
+  (λ is. ap named (sym is.written) ∙ found op is.plain),
 )
 
 -- the instruction that is written so, in a list of spellings

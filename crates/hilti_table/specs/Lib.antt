@@ -1,3 +1,4 @@
+pub mod Exact
 pub mod Laws
 pub mod Mnemonics
 pub mod Rows

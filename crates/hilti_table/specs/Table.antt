@@ -243,6 +243,19 @@ line_of ops.IntSlt =
 line_of ops.IntSgt =
     line (codes "int.sgt") (takes.Two Sized Sized) (gives.Fixed plain.Bool) raises.Nothing
 line_of ops.IntAs = line (codes "int.as") (takes.One int_value) gives.AnyInt raises.Nothing
+line_of ops.IntAddExact =
+    line (codes "int.add") (takes.Two Sized Sized) gives.Sized (raises.One value_error)
+line_of ops.IntSubExact =
+    line (codes "int.sub") (takes.Two Sized Sized) gives.Sized (raises.One value_error)
+line_of ops.IntMulExact =
+    line (codes "int.mul") (takes.Two Sized Sized) gives.Sized (raises.One value_error)
+line_of ops.IntShlExact =
+    line (codes "int.shl") (takes.Two Sized Sized) gives.Sized (raises.One value_error)
+line_of ops.IntSdivExact =
+    line (codes "int.sdiv") (takes.Two Sized Sized) gives.Sized
+    (raises.Two division_by_zero value_error)
+line_of ops.IntAsExact =
+    line (codes "int.as") (takes.One int_value) gives.AnyInt (raises.One value_error)
 line_of ops.BytesLength =
     line (codes "bytes.length") (takes.One bytes) (gives.Fixed plain.Int64) raises.Nothing
 line_of ops.BytesSub =
@@ -438,9 +451,9 @@ line_of ops.TimerMgrAdvance =
     line_to flows.Calls (codes "timer_mgr.advance") (takes.Two manager time) gives.Nothing
     (raises.Two null_reference value_error)
 
--- all instructions
-abbrev pub every : List Op
-every = ops.Nop ∷ ops.Assign ∷ ops.Select ∷ ops.Equal ∷ ops.Less ∷ ops.Hash ∷ ops.Print ∷
+-- all instructions but the exact ones
+abbrev pub every_plain : List Op
+every_plain = ops.Nop ∷ ops.Assign ∷ ops.Select ∷ ops.Equal ∷ ops.Less ∷ ops.Hash ∷ ops.Print ∷
     ops.Yield ∷ ops.Call ∷ ops.CallableBind ∷ ops.CallableCall ∷ ops.HookRun ∷ ops.HookStop ∷
     ops.ThreadSchedule ∷ ops.ThreadId ∷ ops.Jump ∷ ops.IfElse ∷ ops.ReturnVoid ∷ ops.ReturnResult ∷
     ops.ExceptionThrow ∷ ops.New ∷ ops.RefIsNull ∷ ops.BoolAnd ∷ ops.BoolOr ∷ ops.BoolNot ∷

@@ -8,7 +8,9 @@ mod row;
 mod rows;
 #[cfg(test)]
 mod tests;
+mod versions;
 
 pub use mnemonics::op_of;
 pub use row::{Body, Callee, Family, Flow, Gives, Kind, Part, Plain, Raises, Row, Takes, Test};
 pub use rows::row_of;
+pub use versions::exact;

@@ -4,7 +4,7 @@ ghost use Rattle.hilti_table.specs.Mnemonics.{named, IsWrittenSo};
 
 use hilti_types::Op;
 
-/// How each instruction is written.
+/// How each plain instruction is written.
 const SPELLINGS: [(&[u8], Op); 120] = [
     (b"nop", Op::Nop),
     (b"assign", Op::Assign),
@@ -128,7 +128,7 @@ const SPELLINGS: [(&[u8], Op); 120] = [
     (b"timer_mgr.advance", Op::TimerMgrAdvance),
 ];
 
-/// The instruction that is written so, or None for a mnemonic that no row has.
+/// The plain instruction that is written so, or None for a mnemonic that no row has.
 pub fn op_of(mnemonic: &[u8]) -> Option<Op>
     ensures value { result ≡ named mnemonic.now }
     ensures written { IsWrittenSo result mnemonic.now }

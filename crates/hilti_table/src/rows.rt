@@ -179,6 +179,24 @@ pub fn row_of(op: Op) -> Row
             raises: Raises::Nothing,
             flow: Flow::Next,
         },
+        Op::IntAddExact | Op::IntSubExact | Op::IntMulExact | Op::IntShlExact => Row {
+            takes: Takes::Two(Kind::Sized, Kind::Sized),
+            gives: Gives::Sized,
+            raises: Raises::One(Raise::ValueError),
+            flow: Flow::Next,
+        },
+        Op::IntSdivExact => Row {
+            takes: Takes::Two(Kind::Sized, Kind::Sized),
+            gives: Gives::Sized,
+            raises: Raises::Two(Raise::DivisionByZero, Raise::ValueError),
+            flow: Flow::Next,
+        },
+        Op::IntAsExact => Row {
+            takes: Takes::One(Kind::Own(Test::Int)),
+            gives: Gives::AnyInt,
+            raises: Raises::One(Raise::ValueError),
+            flow: Flow::Next,
+        },
         Op::BytesLength => Row {
             takes: Takes::One(Kind::Fixed(Plain::Bytes)),
             gives: Gives::Fixed(Plain::Int64),

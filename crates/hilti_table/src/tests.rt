@@ -8,6 +8,8 @@ use std::test::Fail;
 fn mnemonics_are_found(rt: HostRuntime) -> Result<(), Fail> {
     assert!(rt; op_of(b"nop") == Some(Op::Nop));
     assert!(rt; op_of(b"timer_mgr.advance") == Some(Op::TimerMgrAdvance));
+    assert!(rt; op_of(b"int.add").map(exact) == Some(Op::IntAddExact));
+    assert!(rt; op_of(b"int.div").map(exact) == Some(Op::IntDiv));
     assert!(rt; op_of(b"int.ad").is_none());
     assert!(rt; op_of(b"Int.add").is_none());
     assert!(rt; op_of(b"").is_none());

@@ -1,6 +1,8 @@
+pub mod Bodies
 pub mod Calls
 pub mod Classifiers
 pub mod Examples
+pub mod Exceptions
 pub mod Meeting
 pub mod Objects
 pub mod Programs

@@ -24,7 +24,7 @@ use Rattle.hilti_typing.proofs.Meeting.{flow_rows}
 use Rattle.hilti_typing.proofs.Calls.{call_rows}
 
 -- the item at a place that is in a list
-some_at : {X : Type 0} (xs : List X) (n : ℕ) → n < length xs → (x : X) × (slice_get xs n ≡ Some x)
+pub some_at : {X : Type 0} (xs : List X) (n : ℕ) → n < length xs → (x : X) × (slice_get xs n ≡ Some x)
 some_at [] n h = absurd (omega arith)
 some_at (y ∷ ys) n h = (get_or (y ∷ ys) n y, slice_get-get_or (y ∷ ys) n y h)
 

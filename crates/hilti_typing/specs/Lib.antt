@@ -1,5 +1,6 @@
 pub mod Context
 pub mod Examples
+pub mod Exceptions
 pub mod Facts
 pub mod Fits
 pub mod Laws

@@ -2,6 +2,7 @@
 use Rattle.std.specs.Prelude.{◌≡◌, ◌↔◌, ℕ, ◌+◌, ◌<◌, IsTrue, List, [], ◌∷◌, length, take}
 use Rattle.std.specs.Prelude.{slice_get, Some}
 use Rattle.std.specs.Option.{option_map}
+use Rattle.hilti_base.specs.declared.names.FnId.{FnId}
 use Rattle.hilti_types.specs.declared.op.Op.TheVariants as ops
 use Rattle.hilti_parts.specs.declared.parts.Parts.{Parts}
 use Rattle.hilti_parts.specs.declared.parts.Global.{Global}
@@ -15,7 +16,7 @@ use Rattle.hilti_parts.specs.Named.{named_block, named_function, grouped}
 use Rattle.hilti_typing.specs.Context.{Context, variable_type}
 use Rattle.hilti_typing.specs.Fits.{HaveAll, MayTake}
 use Rattle.hilti_typing.specs.Programs.{context, is_ending, IsTypedInstruction, IsTypedHandler}
-use Rattle.hilti_typing.specs.Programs.{IsTypedBlock}
+use Rattle.hilti_typing.specs.Programs.{IsTypedBlock, is_hook_body, body_at}
 
 -- a block ends with an ending instruction, and has none before it
 pub record EndsOnce (block : Block) : Type 0 where
@@ -59,3 +60,8 @@ pub record NamedParts (parts : Parts) (at : ℕ) (f : Function) : Type 0 where
       CallsFunctionOf parts (context parts at f) i
   pub global : (n : ℕ) → variable_type (context parts at f) (variables.Global n)
       ≡ option_map (λ (g : Global). g.kind) (slice_get parts.globals n)
+
+-- a function is a body of a hook just where it stands at a place of one
+pub record BodiesOfHooks (parts : Parts) : Type 0 where
+  pub stands : (f : FnId) → IsTrue (is_hook_body parts f.n) ↔
+      (h : ℕ) × (k : ℕ) × (body_at parts h k ≡ Some f)

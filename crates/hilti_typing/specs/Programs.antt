@@ -1,7 +1,9 @@
 -- Which parts of a program are typed.
-use Rattle.std.specs.Prelude.{◌≡◌, ℕ, ◌+◌, ◌<◌, ◌≤◌, nat_eq, Bool, false, length, take, map}
-use Rattle.std.specs.Prelude.{slice_get, position, Option, Some, None, IfSome, IsSomeAnd}
+use Rattle.std.specs.Prelude.{◌≡◌, ℕ, ◌+◌, ◌^◌, ◌<◌, ◌≤◌, nat_eq, Bool, false, List, [], ◌∷◌}
+use Rattle.std.specs.Prelude.{length, take, map, codes, bytes_eq, slice_get, position}
+use Rattle.std.specs.Prelude.{Option, Some, None, IfSome, IsSomeAnd}
 use Rattle.std.specs.List.{All, list_any}
+use Rattle.std.specs.Option.{option_map, option_and_then}
 use Rattle.hilti_base.specs.declared.names.FnId.{FnId}
 use Rattle.hilti_types.specs.declared.value_type.ValueType.{ValueType}
 use Rattle.hilti_types.specs.declared.value_type.ValueType.TheVariants as types
@@ -9,7 +11,6 @@ use Rattle.hilti_table.specs.Rows.{ends_block}
 use Rattle.hilti_table.specs.Table.{line_of}
 use Rattle.hilti_parts.specs.declared.parts.Parts.{Parts}
 use Rattle.hilti_parts.specs.declared.parts.Global.{Global}
-use Rattle.hilti_parts.specs.declared.parts.Exception.{Exception}
 use Rattle.hilti_parts.specs.declared.parts.Hook.{Hook}
 use Rattle.hilti_parts.specs.declared.parts.Function.{Function}
 use Rattle.hilti_parts.specs.declared.parts.Block.{Block}
@@ -19,6 +20,7 @@ use Rattle.hilti_parts.specs.declared.parts.Operand.{Operand}
 use Rattle.hilti_parts.specs.declared.parts.Variable.{Variable}
 use Rattle.hilti_parts.specs.Named.{named_function}
 use Rattle.hilti_typing.specs.Context.{Signature, Context, variable_type}
+use Rattle.hilti_typing.specs.Exceptions.{AreExceptions}
 use Rattle.hilti_typing.specs.Fits.{IsValue, IsTypedLine}
 
 -- what a function takes and gives, and what a hook takes
@@ -96,14 +98,65 @@ abbrev pub IsBodyOf : Parts → Hook → FnId → Type 0
 IsBodyOf parts h id =
     IsSomeAnd (slice_get parts.functions id.n) (λ f. signature f ≡ hook_signature h)
 
--- an exception whose parent, if it has one, is there
-abbrev pub HasItsParent : Parts → Exception → Type 0
-HasItsParent parts e = IfSome e.parent (λ p. p < length parts.exceptions)
+-- the body of a hook at a place
+abbrev pub body_at : Parts → ℕ → ℕ → Option FnId
+body_at parts hook at =
+    option_and_then (λ (h : Hook). slice_get h.bodies at) (slice_get parts.hooks hook)
+
+-- a body belongs to one hook, at one place
+abbrev pub BelongsOnce : Parts → FnId → Type 0
+BelongsOnce parts f =
+    (h k i j : ℕ) → body_at parts h k ≡ Some f → body_at parts i j ≡ Some f → (h ≡ i) × (k ≡ j)
+
+-- the place of the first function of a name
+abbrev pub function_named : Parts → List ℕ → Option ℕ
+function_named parts name = position (λ (f : Function). bytes_eq f.name name) parts.functions
+
+-- the entry that each packet is handed to takes a time and bytes, the others nothing
+abbrev pub packet_signature : Signature
+packet_signature = record { parameters = types.Time ∷ types.Bytes ∷ []; result = None }
+
+abbrev pub bare_signature : Signature
+bare_signature = record { parameters = []; result = None }
+
+-- a function that takes and gives just this, and is no body of a hook
+pub record IsEntry (parts : Parts) (asked : Signature) (at : ℕ) : Type 0 where
+  pub takes : option_map signature (slice_get parts.functions at) ≡ Some asked
+  pub no_body : is_hook_body parts at ≡ false
+
+-- `Main::packet` is there; `Main::init` and `Main::done` may be
+pub record HasEntries (parts : Parts) : Type 0 where
+  pub packet : IsSomeAnd (function_named parts (codes "Main::packet"))
+      (IsEntry parts packet_signature)
+  pub init : IfSome (function_named parts (codes "Main::init")) (IsEntry parts bare_signature)
+  pub done : IfSome (function_named parts (codes "Main::done")) (IsEntry parts bare_signature)
+
+-- a list whose places are numbers of 32 bits
+abbrev pub IsShort : {A : Type 0} → List A → Type 0
+IsShort items = length items < 2 ^ 32
+
+pub record IsShortFunction (f : Function) : Type 0 where
+  pub slots : IsShort f.slots
+  pub blocks : IsShort f.blocks
+  pub instructions : All (λ (b : Block). IsShort b.instructions) f.blocks
+
+-- parts whose places are numbers of 32 bits
+pub record AreShort (parts : Parts) : Type 0 where
+  pub types : IsShort parts.types
+  pub globals : IsShort parts.globals
+  pub functions : IsShort parts.functions
+  pub exceptions : IsShort parts.exceptions
+  pub hooks : IsShort parts.hooks
+  pub each : All IsShortFunction parts.functions
+  pub bodies : All (λ (h : Hook). IsShort h.bodies) parts.hooks
 
 -- parts that are typed
 pub record AreTyped (parts : Parts) : Type 0 where
   pub globals : All (λ (g : Global). IsValue parts.types g.kind g.first) parts.globals
-  pub exceptions : All (HasItsParent parts) parts.exceptions
+  pub exceptions : AreExceptions parts.exceptions
   pub hooks : All (λ (h : Hook). All (IsBodyOf parts h) h.bodies) parts.hooks
+  pub bodies : (f : FnId) → BelongsOnce parts f
   pub functions : (at : ℕ) (f : Function) → slice_get parts.functions at ≡ Some f →
       IsTypedFunction parts at f
+  pub entries : HasEntries parts
+  pub short : AreShort parts

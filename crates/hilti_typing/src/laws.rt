@@ -5,10 +5,11 @@ ghost use Rattle.hilti_table.specs.declared.row.Family.TheVariants as families;
 ghost use Rattle.hilti_parts.specs.declared.parts.Function.{Function as Body};
 ghost use Rattle.hilti_parts.specs.declared.parts.Parts.{Parts as Whole};
 ghost use Rattle.hilti_typing.specs.Examples.{FittingLines, RefusedLines};
+ghost use Rattle.hilti_typing.specs.Exceptions.{ExceptionsMakeTree};
 ghost use Rattle.hilti_typing.specs.Laws.{PlainRows, NumberRows, OwnRows, FlowRows, CallRows};
 ghost use Rattle.hilti_typing.specs.Laws.{ObjectRows, ItemRows, MapRows, StructRows, TupleRows};
 ghost use Rattle.hilti_typing.specs.Laws.{ClassifierRows, OverlayRows, PassedTests, Targets};
-ghost use Rattle.hilti_typing.specs.ProgramLaws.{TypedBlocksEnd, NamedParts};
+ghost use Rattle.hilti_typing.specs.ProgramLaws.{TypedBlocksEnd, NamedParts, BodiesOfHooks};
 
 /// Rows on plain types meet values of the types that they name, and their target is of the type that they name.
 pub fn plain_rows()
@@ -95,6 +96,17 @@ pub fn typed_blocks_end()
 /// with arguments of the types of its parameters and a target, if one, of the type of its result.
 pub fn named_parts()
     ensures { (parts : Whole) (at : ℕ) (f : Body) → NamedParts parts at f }
+{}
+
+/// The built-in exceptions are found at their numbers. Each exception but `Exception` has a parent, which stands before
+/// it, so that every chain of parents ends at `Exception`.
+pub fn exceptions_make_tree()
+    ensures { ExceptionsMakeTree }
+{}
+
+/// A function is a body of a hook just where it stands at a place of one.
+pub fn bodies_of_hooks()
+    ensures { (parts : Whole) → BodiesOfHooks parts }
 {}
 
 /// Some lines that are typed in a body, and some that aren't: with a number of another width, a target or an item of
