@@ -1,0 +1,8 @@
+-- What a loop over a list gives, one item after another.
+use Rattle.std.proofs.Common.{◌≡◌, ◌∙◌, refl, sym, ap, List, [], ◌∷◌, ◌++◌, Option, Some, None}
+use Rattle.std.specs.Option.{option_map, option_and_then}
+use Rattle.hilti_rows.specs.Sources.{each_of}
+
+-- a list in front of another, if that is there
+abbrev pub behind : {A : Type 0} → List A → Option (List A) → Option (List A)
+behind front rest = option_map (λ ys. front ++ ys) rest
