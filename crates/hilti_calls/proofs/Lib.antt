@@ -1,0 +1,4 @@
+pub mod Fuel
+pub mod Stacks
+pub mod Cutting
+pub mod Leading
