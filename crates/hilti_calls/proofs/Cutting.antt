@@ -1,5 +1,5 @@
 -- How a trace that grows is cut into parts.
-use Rattle.std.proofs.Common.{◌≡◌, List, [], ◌∷◌, ◌++◌, map, refl, ap, sym, ◌∙◌}
+use Rattle.std.proofs.Common.{◌≡◌, ℕ, List, [], ◌∷◌, ◌++◌, map, append-nil, refl, ap, sym, ◌∙◌}
 use Rattle.hilti_calls.specs.Calls.{Outcome, Outcome.Ended, Outcome.Spent, emit}
 use Rattle.hilti_calls.specs.Parts.{Mark, Mark.Plain, Mark.Cut, Part, before, before_all, parts, Closing, parts_of}
 use Rattle.hilti_calls.specs.Parts.{joined, LosesNothing}
@@ -44,6 +44,26 @@ module _ {S R L C : Type 0} (closing : Closing S R L C) where
   pub parts_of_cut : (close : C) (o : Outcome S R (Mark L C))
       → parts_of closing (emit (Cut close ∷ []) o) ≡ record { items = []; close = close } ∷ parts_of closing o
   parts_of_cut close o = parts_of_emit (Cut close ∷ []) o
+
+  -- a whole part first: items up to a suspension
+  pub parts_of_part : (items : List L) (close : C) (o : Outcome S R (Mark L C))
+      → parts_of closing (emit (map Plain items) (emit (Cut close ∷ []) o))
+      ≡ record { items = items; close = close } ∷ parts_of closing o
+  parts_of_part items close o =
+      parts_of_plain items (emit (Cut close ∷ []) o)
+      ∙ ap (before_all items) (parts_of_cut close o)
+      ∙ before_all_first items (record { items = []; close = close }) (parts_of closing o)
+      ∙ ap (λ all. record { items = all; close = close } ∷ parts_of closing o) (append-nil items)
+
+  -- the last part, where the run ends after these items
+  pub parts_of_ended : (items : List L) (r : R) (st : S) (left : ℕ)
+      → parts_of closing (emit (map Plain items) (Ended r st left [])) ≡ before_all items (closing.over r st ∷ [])
+  parts_of_ended items r st left = parts_of_plain items (Ended r st left [])
+
+  -- the last part, where the fuel is spent after these items
+  pub parts_of_spent : (items : List L) (st : S)
+      → parts_of closing (emit (map Plain items) (Spent st [])) ≡ before_all items (closing.spent st ∷ [])
+  parts_of_spent items st = parts_of_plain items (Spent st [])
 
 -- there is a first part
 record HasFirst {L C : Type 0} (ps : List (Part L C)) : Type 0 where

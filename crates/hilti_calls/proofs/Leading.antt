@@ -1,10 +1,8 @@
 -- Steps over the stores that a heap stands for.
-use Rattle.std.proofs.Common.{◌≡◌, ℕ, suc, ◌+◌, List, [], ◌∷◌, ◌++◌, refl, ap, sym, ◌∙◌, subst, arith}
-use Rattle.hilti_calls.specs.Calls.{Action.Go, Action.Call, Action.Leave, Back.On, Back.Out}
-use Rattle.hilti_calls.specs.Calls.{Outcome.Ended, Language, emit}
-use Rattle.hilti_calls.specs.Stack.{Pending, NoneRuns, resumes, rest}
+use Rattle.std.proofs.Common.{◌≡◌, ℕ, suc, ◌+◌, List, [], ◌++◌, refl, ap, sym, ◌∙◌, subst, arith}
+use Rattle.hilti_calls.specs.Calls.{Outcome, emit}
 use Rattle.hilti_calls.specs.Stores.{ComesFrom, Leads, Ahead, Reaches, Steps}
-use Rattle.hilti_calls.proofs.Stacks.{emit_emit, emit_none, rest_go, rest_call, rest_leave, pop_on, pop_out}
+use Rattle.hilti_calls.proofs.Stacks.{emit_emit, emit_none}
 
 module _ {H S : Type 0} (Stands : H → S → Type 0) where
   -- nothing was done
@@ -63,6 +61,27 @@ module _ {H S T R I : Type 0} (Stands : H → S → Type 0) where
         (λ st. refl) (emit_after items more ahead left) (step.each left).each);
   }
 
+  -- the end of a run: what is ahead then leads to something, behind the items so far
+  pub reaches_end : (a b c : H) (all ahead : Ahead S T R I) (fuel left : ℕ) (items : List I) (to : S → Outcome T R I)
+      → Reaches Stands a all fuel items b ahead left → Leads Stands b (λ st. ahead st left) c to
+      → Leads Stands a (λ st. all st fuel) c (λ st. emit items (to st))
+  reaches_end a b c all ahead fuel left items to run last =
+      leads_then Stands a b c (λ st. all st fuel) (λ st. emit items (ahead st left)) (λ st. emit items (to st))
+      run.each
+      (leads_on Stands b c (λ st. ahead st left) to (λ st. emit items (ahead st left)) (λ st. emit items (to st))
+      (emit items) (λ st. refl) (λ st. refl) last)
+
+  -- a step without items
+  pub silent_steps : (a b : H) (all ahead : Ahead S T R I)
+      → ((left : ℕ) → Leads Stands a (λ st. all st (suc left)) b (λ st. ahead st left))
+      → Steps Stands a all [] b ahead
+  silent_steps a b all ahead leads = record {
+    each = λ left. record {
+      each = leads_on Stands a b (λ st. all st (suc left)) (λ st. ahead st left) (λ st. all st (suc left))
+          (λ st. emit [] (ahead st left)) (λ o. o) (λ st. refl) (λ st. sym (emit_none (ahead st left))) (leads left);
+    };
+  }
+
 -- so many steps one after another, with their items
 pub data Run {C I : Type 0} (Step : C → List I → C → Type 0) : ℕ → C → List I → C → Type 0 where
   Stays : (c : C) → Run Step 0 c [] c
@@ -84,85 +103,3 @@ module _ {C S T R I : Type 0} (Stands : C → S → Type 0) (ahead : C → Ahead
       subst (λ fuel. Reaches Stands x (ahead x) fuel (said ++ more) z (ahead z) left) one
       (reaches_step Stands x y z (ahead x) (ahead y) (ahead z) (m + suc left) left said more
       (run_reaches m x y said (suc left) run) (leads y z more step))
-
--- The top frame's action leads from each store that the heap a stands for to one that b stands for; `into` makes a
--- state of a store.
-module _ {H S F P T R I : Type 0} (Stands : H → S → Type 0) (l : Language F T R I) (p : Pending F P T R)
-    (a b : H) (below : List P) (top : F) (into : S → T) where
-  -- the top goes on
-  pub go_steps : (items : List I) (next : F) (after : S → T)
-      → Leads Stands a (λ st. l.act top (into st)) b (λ st. Go items next (after st))
-      → Steps Stands a (λ st. rest l p below top (into st)) items b (λ st. rest l p below next (after st))
-  go_steps items next after leads = record {
-    each = λ left. record {
-      each = λ st stands.
-          let first : ComesFrom (Stands b) (l.act top (into st)) (λ st. Go items next (after st)) = leads st stands in
-          record {
-            store = first.store;
-            stands = first.stands;
-            so = rest_go l p below top (into st) left items next (after first.store) first.so;
-          };
-    };
-  }
-
-  -- the top calls, and an entry that stands for it waits
-  pub call_steps : (first : F) (more : List F) (caller : F) (after : S → T) (w : P)
-      → p.more w ≡ more → p.back w ≡ l.resume caller
-      → Leads Stands a (λ st. l.act top (into st)) b (λ st. Call first more caller (after st))
-      → Steps Stands a (λ st. rest l p below top (into st)) [] b (λ st. rest l p (below ++ w ∷ []) first (after st))
-  call_steps first more caller after w callees back leads = record {
-    each = λ left. record {
-      each = λ st stands.
-          let found : ComesFrom (Stands b) (l.act top (into st)) (λ st. Call first more caller (after st)) =
-          leads st stands in
-          record {
-            store = found.store;
-            stands = found.stands;
-            so = rest_call l p below top (into st) left first more caller (after found.store) w found.so callees back
-                ∙ sym (emit_none (rest l p (below ++ w ∷ []) first (after found.store) left));
-          };
-    };
-  }
-
-  -- the top ends
-  pub leave_leads : (r : R) (after : S → T) (left : ℕ)
-      → Leads Stands a (λ st. l.act top (into st)) b (λ st. Leave r (after st))
-      → Leads Stands a (λ st. rest l p below top (into st) (suc left)) b
-      (λ st. resumes l p below (Ended r (after st) left []))
-  leave_leads r after left leads st stands =
-      let found : ComesFrom (Stands b) (l.act top (into st)) (λ st. Leave r (after st)) = leads st stands in
-      record {
-        store = found.store;
-        stands = found.stands;
-        so = rest_leave l p below top (into st) left r (after found.store) found.so;
-      }
-
--- A callee ended above this caller, none runs after it, and the caller's way back leads from each store that a stands
--- for to one that b stands for.
-module _ {H S F P T R I : Type 0} (Stands : H → S → Type 0) (l : Language F T R I) (p : Pending F P T R)
-    (a b : H) (below : List P) (w : P) (r : R) (into : S → T) (none : NoneRuns l.continues (p.more w) r) where
-  -- the caller goes on
-  pub on_leads : (frame : F) (after : S → T) (left : ℕ)
-      → Leads Stands a (λ st. p.back w r (into st)) b (λ st. On frame (after st))
-      → Leads Stands a (λ st. resumes l p (below ++ w ∷ []) (Ended r (into st) left [])) b
-      (λ st. rest l p below frame (after st) left)
-  on_leads frame after left leads st stands =
-      let found : ComesFrom (Stands b) (p.back w r (into st)) (λ st. On frame (after st)) = leads st stands in
-      record {
-        store = found.store;
-        stands = found.stands;
-        so = pop_on l p below w r (into st) left frame (after found.store) none found.so;
-      }
-
-  -- the caller ends too
-  pub out_leads : (result : R) (after : S → T) (left : ℕ)
-      → Leads Stands a (λ st. p.back w r (into st)) b (λ st. Out result (after st))
-      → Leads Stands a (λ st. resumes l p (below ++ w ∷ []) (Ended r (into st) left [])) b
-      (λ st. resumes l p below (Ended result (after st) left []))
-  out_leads result after left leads st stands =
-      let found : ComesFrom (Stands b) (p.back w r (into st)) (λ st. Out result (after st)) = leads st stands in
-      record {
-        store = found.store;
-        stands = found.stands;
-        so = pop_out l p below w r (into st) left result (after found.store) none found.so;
-      }

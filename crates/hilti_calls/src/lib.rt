@@ -36,8 +36,9 @@
 //! back. A heap stands for many stores, so a machine's clause speaks of each of them: `Leads` says that from each store
 //! that the old heap stands for, the meaning leads to what comes from some store that the new heap stands for. `Steps`
 //! says it of one step and what is ahead, `Reaches` of all steps so far, which is the invariant of a loop
-//! (`reaches_step`), and `run_reaches` of whole runs. An action that leads is a step (`go_steps`, `call_steps`), or an
-//! end above a caller that goes on or ends too (`leave_leads`, `on_leads`, `out_leads`).
+//! (`reaches_step`, and `reaches_end` where it ends), and `run_reaches` of whole runs. An action of the top that leads
+//! is a step (`go_steps`, `call_steps`) or a suspension (`go_leads`), or the top ends (`leave_leads`) and its caller
+//! goes on (`next_leads`, `on_leads`) or ends too (`out_leads`).
 #![tactic(auto)]
 
 pub mod laws;
