@@ -78,11 +78,11 @@ module _ {F P S R I : Type 0} (l : Language F S R I) (p : Pending F P S R) where
       → rest l p below top st (suc fuel) ≡ rest l p (below ++ w ∷ []) first after fuel
   unfolding rest
   rest_call below top st fuel first more caller after w does callees back =
+      let all : List F → (R → S → Back F S R) → Outcome S R I =
+      λ ms b. resumes l p below (then_do (exec l first after fuel) (finish l.continues (exec l) ms b)) in
       rest_step below top st fuel (Call first more caller after) does
-      ∙ ap (λ x. resumes l p below (then_do (exec l first after fuel) (finish l.continues (exec l) x (l.resume caller))))
-      (sym callees)
-      ∙ ap (λ x. resumes l p below (then_do (exec l first after fuel) (finish l.continues (exec l) (p.more w) x)))
-      (sym back)
+      ∙ ap (λ ms. all ms (l.resume caller)) (sym callees)
+      ∙ ap (all (p.more w)) (sym back)
       ∙ sym (resumes_push below w (exec l first after fuel))
 
   -- the top ends

@@ -42,8 +42,8 @@ pub record Leaves (s : Frames) (head : Head) (after : Frames) : Type 0 where
   pub caller : s.below ≡ after.below ++ frame head after.slots ∷ []
   pub made : after.made ≡ []
 
--- leaving a callee undoes entering it, whatever the callee did to its own slots: the caller is as it
--- was, but that its callee's slots are no longer being made
+-- Leaving a callee undoes entering it, whatever the callee did to its own slots: the caller is as
+-- it was, but that its callee's slots are no longer being made.
 abbrev pub Undoes : Frames → Head → Frames → Head → Frames → Type 0
 Undoes s its callee head after =
     callee.below ≡ (entered s its).below → Leaves callee head after

@@ -98,7 +98,7 @@ impl Stack {
         &self.values.as_slice()[self.base + self.count..]
     }
 
-    /// Makes a slot for a callee, behind those made before it. Without memory nothing changes, and the value is dropped.
+    /// Makes a slot for a callee, behind those made so far. Without memory nothing changes, and the value is dropped.
     #[inline]
     pub fn make(&mut self, value: Value) -> Result<(), NoMemory>
         ensures ok { OnOk result (self.new ≡ with_made self.old (self.old.made ++ value ∷ [])) }
