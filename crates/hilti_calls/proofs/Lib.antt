@@ -1,0 +1,6 @@
+pub mod Fuel
+pub mod Stacks
+pub mod Cutting
+pub mod Leading
+pub mod Moves
+pub mod Examples

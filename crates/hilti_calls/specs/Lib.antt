@@ -1,0 +1,4 @@
+pub mod Calls
+pub mod Stack
+pub mod Parts
+pub mod Stores
