@@ -6,3 +6,4 @@ pub mod Making
 pub mod Places
 pub mod Raising
 pub mod Shedding
+pub mod Standing

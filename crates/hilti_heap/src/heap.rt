@@ -4,7 +4,7 @@ ghost use Rattle.std.specs.Borrow.{sem};
 ghost use Rattle.std.specs.Option.{option_copied, option_copied_mut};
 ghost use Rattle.hilti_heap.specs.Cells.{Stands, IsCell, object_at, times_at, count_at, kept_in};
 ghost use Rattle.hilti_heap.specs.Changed.{with_object};
-ghost use Rattle.hilti_heap.specs.Held.{is, held};
+ghost use Rattle.hilti_heap.specs.Held.{is, held, all_held};
 ghost use Rattle.hilti_heap.specs.Kept.{Covers, AreKept, Makes, Holds, KeepsObjects, Releases, Changes};
 ghost use Rattle.hilti_heap.specs.declared.cells.Cell as spec;
 ghost use Rattle.hilti_heap.specs.declared.object.Object.{Object};
@@ -13,7 +13,7 @@ use crate::cells::{Cell, object_of, place_of};
 use crate::object::Object;
 use crate::shelf::Shelf;
 use hilti_base::NoMemory;
-use hilti_values::{Reference, Value};
+use hilti_values::{Reference, Value, Values};
 use std::alloc::Global;
 use std::marker::Model;
 
@@ -126,6 +126,15 @@ impl Heap {
         self.shelf.raise_value(value)
     }
 
+    /// The same for each of some values.
+    pub fn hold_values(&mut self, values: &Values) -> Result<(), NoMemory>
+        requires { AreKept self.old (λ s. all_held s values.now) }
+        ensures ok { OnOk result (Holds self.old self.new (λ s. all_held s values.now)) }
+        ensures err { OnErr result (KeepsObjects self.old self.new) }
+    {
+        self.shelf.raise_values(values)
+    }
+
     /// An object has one holder less. Where it was the last, the object is given back, and with it each object that
     /// only it held.
     pub fn release(&mut self, at: &Reference)
@@ -142,6 +151,15 @@ impl Heap {
         ensures { Releases self.old self.new (λ s. held s value.now) }
     {
         self.shelf.lower_value(value);
+        self.shelf.drain();
+    }
+
+    /// The same for each of some values.
+    pub fn release_values(&mut self, values: &Values)
+        requires { Covers self.old (λ s. all_held s values.now) }
+        ensures { Releases self.old self.new (λ s. all_held s values.now) }
+    {
+        self.shelf.lower_values(values);
         self.shelf.drain();
     }
 
