@@ -1,21 +1,20 @@
 -- What instructions do with stores, from what the calls of a heap do.
-use Rattle.std.proofs.Common.{◌≡◌, ◌≢◌, ℕ, ◌+◌, ◌≤◌, Bool, true, false, [], ◌∷◌, refl, sym, ap, subst, ◌∙◌}
+use Rattle.std.proofs.Common.{◌≡◌, ◌≢◌, ℕ, ◌+◌, ◌≤◌, Bool, true, false, [], ◌∷◌, refl, sym, ap}
+use Rattle.std.proofs.Common.{subst, ◌∙◌}
 use Rattle.std.proofs.Common.{Option, Some, None, arith, ◌⊎◌, ⊎_elim}
 use Rattle.std.proofs.lemmas.Bool.Decides.{nat_tests}
 use Rattle.std.specs.Prelude.{nat_eq, OnOk, OnErr, Result, Ok, Err}
 use Rattle.hilti_base.specs.declared.refusal.Raise.{Raise}
-use Rattle.hilti_base.specs.declared.refusal.Raise.TheVariants.{NullReference}
 use Rattle.hilti_values.specs.declared.value.Value.{Value}
 use Rattle.hilti_values.specs.declared.value.Value.TheVariants.{Ref}
 use Rattle.hilti_heap.specs.declared.cells.Cell.{Cell}
 use Rattle.hilti_heap.specs.declared.object.Object.{Object}
-use Rattle.hilti_heap.specs.Cells.{Cells, count_at, inner_at, times_at, object_at}
+use Rattle.hilti_heap.specs.Cells.{Cells, inner_at, object_at}
 use Rattle.hilti_heap.specs.Changed.{with_object}
-use Rattle.hilti_heap.specs.Held.{is, part, held, object_held}
-use Rattle.hilti_heap.specs.Kept.{Kept, with_at, Covers, AreKept, Makes, Holds, Releases, Changes}
-use Rattle.hilti_heap.specs.Shelves.{Alive}
-use Rattle.hilti_heap.specs.Stands.{StandsFor, Fits, GoesTo, Goes, Creates}
-use Rattle.hilti_heap.specs.Stores.{Store, Answer, Answer.Done, Answer.Raised}
+use Rattle.hilti_heap.specs.Held.{part, held, object_held}
+use Rattle.hilti_heap.specs.Kept.{Kept, Covers, AreKept, Holds, Releases, Changes}
+use Rattle.hilti_heap.specs.Stands.{StandsFor, Goes, Creates}
+use Rattle.hilti_heap.specs.Stores.{Store, Answer.Done, Answer.Raised}
 use Rattle.hilti_heap.specs.Stores.{added, changed, create, change, told}
 use Rattle.hilti_heap.proofs.Heaping.{with_here, with_there}
 use Rattle.hilti_heap.proofs.Keeping.{counted_there}
@@ -64,12 +63,12 @@ stands_changed a b s old new st c f = record {
   next = c.next ∙ f.next;
   same = λ q o e. ⊎_elim
       (λ (d : q ≡ s).
-          with_here st.object s q (Some new) d
-          ∙ sym (with_here (λ q. object_at q a.cells) s q (Some new) d) ∙ sym (c.objects q) ∙ e)
+      with_here st.object s q (Some new) d
+      ∙ sym (with_here (λ q. object_at q a.cells) s q (Some new) d) ∙ sym (c.objects q) ∙ e)
       (λ (d : q ≢ s).
-          with_there st.object s q (Some new) d
-          ∙ f.same q o
-            (sym (with_there (λ q. object_at q a.cells) s q (Some new) d) ∙ sym (c.objects q) ∙ e))
+      with_there st.object s q (Some new) d
+      ∙ f.same q o
+      (sym (with_there (λ q. object_at q a.cells) s q (Some new) d) ∙ sym (c.objects q) ∙ e))
       (one_or q s);
 }
 
@@ -106,7 +105,8 @@ told_goes tell r s o v a b there t h = record {
   fits = λ n fit. record {
     count = λ q. let e = fit.count q in let k = h.count q in let i = h.inner q in omega arith;
     alive = λ q t.
-        let k = h.count q in let i = h.times q in let live = fit.alive q (omega arith) in omega arith;
+        let k = h.count q in let i = h.times q in let live = fit.alive q (omega arith) in
+        omega arith;
   };
 }
 
@@ -158,7 +158,7 @@ module _ (f : Object → Object) (s : ℕ) (gained lost : ℕ → ℕ) (old : Ob
       store = changed st s (f old);
       so = change_is f s old st (stands.same s old there);
       stands =
-        stands_released c d lost _ r
+          stands_released c d lost _ r
           (stands_changed b c s old (f old) st ch (stands_held a b gained st h stands));
     };
     fits = λ n fit. record {
@@ -194,7 +194,7 @@ on_err (Err e) f p = f p
 pub changes_to : (h : Kept) (s : ℕ) (f : Object → Object) (now then : Object)
     → Some now ≡ object_at s h.cells
     → ((old new : Object) → object_at s h.cells ≡ Some old
-      → Changes h (with_object h s new) s old new)
+    → Changes h (with_object h s new) s old new)
     → then ≡ f now → (old : Object) → object_at s h.cells ≡ Some old
     → Changes h (with_object h s then) s old (f old)
 changes_to h s f now then value ch t old e =
@@ -205,7 +205,7 @@ changes_to h s f now then value ch t old e =
 pub changes_by : {X E : Type 0} (r : Result X E) (h : Kept) (s : ℕ) (f : Object → Object)
     (now then : Object) → Some now ≡ object_at s h.cells
     → ((old new : Object) → object_at s h.cells ≡ Some old
-      → Changes h (with_object h s new) s old new)
+    → Changes h (with_object h s new) s old new)
     → OnOk r (then ≡ f now) → (old : Object) → object_at s h.cells ≡ Some old
     → OnOk r (Changes h (with_object h s then) s old (f old))
 changes_by r h s f now then value ch ok old e =

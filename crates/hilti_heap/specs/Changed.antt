@@ -1,5 +1,5 @@
 -- A heap with another object in the place of one.
-use Rattle.std.specs.Prelude.{ℕ, nat_eq, List, [], ◌∷◌, Option, Some, None, if◌then◌else◌}
+use Rattle.std.specs.Prelude.{ℕ, nat_eq, [], ◌∷◌, Option, Some, None, if◌then◌else◌}
 use Rattle.hilti_heap.specs.declared.object.Object.{Object}
 use Rattle.hilti_heap.specs.declared.cells.Cell.{Cell}
 use Rattle.hilti_heap.specs.Cells.{Cells}

@@ -1,5 +1,5 @@
 -- A heap as contracts see it: the next serial, and the objects with their serials and counts.
-use Rattle.std.specs.Prelude.{◌≡◌, ℕ, ◌+◌, ◌≤◌, nat_eq, Option, Some, if◌then◌else◌}
+use Rattle.std.specs.Prelude.{◌≡◌, ℕ, ◌+◌, ◌≤◌, ◌^◌, nat_eq, Some, if◌then◌else◌}
 use Rattle.hilti_heap.specs.Held.{object_held}
 use Rattle.hilti_heap.specs.Cells.{Cells, count_at, inner_at, times_at, object_at}
 use Rattle.hilti_heap.specs.Shelves.{Alive}
@@ -68,3 +68,8 @@ pub record KeepsObjects (a b : Kept) : Type 0 where
   pub objects : (s : ℕ) → object_at s b.cells ≡ object_at s a.cells
   pub inner : (s : ℕ) → inner_at s b.cells ≡ inner_at s a.cells
   pub times : (s : ℕ) → times_at s b.cells ≡ times_at s a.cells
+
+-- no number counts so many holders more, of some object
+pub record Overflows (a : Kept) (gained : ℕ → ℕ) : Type 0 where
+  pub serial : ℕ
+  pub over : 2 ^ 64 ≤ count_at serial a.cells + gained serial

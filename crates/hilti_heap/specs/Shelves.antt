@@ -2,7 +2,8 @@
 use Rattle.std.specs.Prelude.{◌≡◌, ℕ, ◌+◌, ◌≤◌, ◌^◌, List, sum_by, Some, None, slice_get}
 use Rattle.std.specs.Vec.{vec_len, vec_capacity}
 use Rattle.hilti_heap.specs.Held.{is, object_held}
-use Rattle.hilti_heap.specs.Cells.{Cells, Stands, over, count_at, inner_at, times_at, kept_in, object_at}
+use Rattle.hilti_heap.specs.Cells.{Cells, Stands, over, count_at, inner_at, times_at, kept_in}
+use Rattle.hilti_heap.specs.Cells.{object_at}
 use Rattle.hilti_heap.specs.declared.object.Object.{Object}
 use Rattle.hilti_heap.specs.declared.cells.Cell.{Cell}
 use Rattle.hilti_heap.specs.declared.shelf.Shelf.{Shelf}
@@ -28,9 +29,11 @@ pub record CanLower (a : Shelf) (place : ℕ) : Type 0 where
   pub there : Stands serial a.cells.items place
   pub ready : Ready a (λ s. is s serial)
 
--- no number counts one holder more of the object s, where it stands once
-abbrev pub IsFull : ℕ → Shelf → Type 0
-IsFull s a = times_at s a.cells.items ≤ 1 → count_at s a.cells.items + 1 ≡ 2 ^ 64
+-- no number counts so many holders more, of some object, where it stands once
+pub record Overflows (a : Shelf) (gained : ℕ → ℕ) : Type 0 where
+  pub serial : ℕ
+  pub over : times_at serial a.cells.items ≤ 1 →
+      2 ^ 64 ≤ count_at serial a.cells.items + gained serial
 
 -- an object that is there has a holder
 abbrev pub Alive : ℕ → Cells → Type 0

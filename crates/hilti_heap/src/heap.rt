@@ -2,10 +2,11 @@ ghost use Rattle.std.specs.Prelude.{◌≡◌, ◌+◌, ◌≤◌, ◌<◌, ◌^
 ghost use Rattle.std.specs.Prelude.{IfOk, OnOk, OnErr, IfErr, IsTrue};
 ghost use Rattle.std.specs.Borrow.{sem};
 ghost use Rattle.std.specs.Option.{option_copied, option_copied_mut};
-ghost use Rattle.hilti_heap.specs.Cells.{Stands, IsCell, object_at, times_at, count_at, kept_in};
+ghost use Rattle.hilti_heap.specs.Cells.{Stands, IsCell, object_at, times_at, kept_in};
 ghost use Rattle.hilti_heap.specs.Changed.{with_object};
 ghost use Rattle.hilti_heap.specs.Held.{is, held, all_held};
-ghost use Rattle.hilti_heap.specs.Kept.{Covers, AreKept, Makes, Holds, KeepsObjects, Releases, Changes};
+ghost use Rattle.hilti_heap.specs.Kept.{Covers, AreKept, Makes, Holds, Overflows};
+ghost use Rattle.hilti_heap.specs.Kept.{KeepsObjects, Releases, Changes};
 ghost use Rattle.hilti_heap.specs.declared.cells.Cell as spec;
 ghost use Rattle.hilti_heap.specs.declared.object.Object.{Object};
 
@@ -28,7 +29,6 @@ pub struct Heap {
 
 impl Model for Heap {
     ghost use Rattle.hilti_heap.specs.Kept.{Kept};
-
     ghost use Rattle.std.specs.Coded.{codes};
     ghost use Rattle.hilti_values.specs.contracts.value.Value as values;
 
@@ -111,16 +111,17 @@ impl Heap {
         requires { 1 ≤ times_at at.now self.old.cells }
         ensures ok { OnOk result (Holds self.old self.new (λ s. is s at.now)) }
         ensures err { OnErr result (self.new ≡ self.old) }
-        ensures full { OnErr result (count_at at.now self.old.cells + 1 ≡ 2 ^ 64) }
+        ensures full { OnErr result (Overflows self.old (λ s. is s at.now)) }
     {
         self.shelf.raise(at)
     }
 
-    /// The objects that a value holds have one holder more for each time that it holds them. It is refused only where no
-    /// number counts them; objects stay then, and some of their counts may have risen.
+    /// The objects that a value holds have one holder more for each time that it holds them. It is refused only where
+    /// no number counts them; objects stay then, and some of their counts may have risen.
     pub fn hold_value(&mut self, value: &Value) -> Result<(), NoMemory>
         requires { AreKept self.old (λ s. held s value.now) }
         ensures ok { OnOk result (Holds self.old self.new (λ s. held s value.now)) }
+        ensures full { OnErr result (Overflows self.old (λ s. held s value.now)) }
         ensures err { OnErr result (KeepsObjects self.old self.new) }
     {
         self.shelf.raise_value(value)
@@ -130,6 +131,7 @@ impl Heap {
     pub fn hold_values(&mut self, values: &Values) -> Result<(), NoMemory>
         requires { AreKept self.old (λ s. all_held s values.now) }
         ensures ok { OnOk result (Holds self.old self.new (λ s. all_held s values.now)) }
+        ensures full { OnErr result (Overflows self.old (λ s. all_held s values.now)) }
         ensures err { OnErr result (KeepsObjects self.old self.new) }
     {
         self.shelf.raise_values(values)
@@ -173,8 +175,8 @@ impl Heap {
         }
     }
 
-    /// An object, for writing; `None` exactly where no object has the serial. No count changes: the caller holds what it
-    /// puts into the object, and releases what it takes out.
+    /// An object, for writing; `None` exactly where no object has the serial. No count changes: the caller holds what
+    /// it puts into the object, and releases what it takes out.
     pub fn change(&mut self, at: &Reference) -> Option<&mut Object>
         ensures* writes_back { sem 𝓛 (LendsAt self.entry at.now result) }
         ensures value { option_copied_mut result ≡ object_at at.now self.old.cells }
@@ -200,7 +202,8 @@ impl Heap {
 
 /// The object at a place.
 fn object_in(cells: &[Option<Cell>], place: usize) -> Option<&Object>
-    ensures { (cell : spec.Cell) → IsCell cells.now place cell → option_copied result ≡ Some cell.object }
+    ensures { (cell : spec.Cell) → IsCell cells.now place cell →
+        option_copied result ≡ Some cell.object }
 {
     match cells.get(place) {
         Some(Some(cell)) => Some(&cell.object),

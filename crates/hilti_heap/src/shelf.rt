@@ -4,15 +4,14 @@ ghost use Rattle.std.specs.Option.{option_copied};
 ghost use Rattle.hilti_heap.specs.Held.{is, part, held, all_held, fields_held, object_held};
 ghost use Rattle.hilti_heap.specs.Cells.{Stands, IsCell, new_cell, times_at, count_at, kept_in};
 ghost use Rattle.hilti_heap.specs.Shelves.{within, Ready, CanLower, Sheds, LetsGo, Opens, KeepsRest, Known, Gains};
-ghost use Rattle.hilti_heap.specs.Shelves.{IsFull, SameBut};
+ghost use Rattle.hilti_heap.specs.Shelves.{Overflows, SameBut};
 ghost use Rattle.hilti_heap.specs.declared.cells.Cell as spec;
 
 use crate::cells::{Cell, place_of};
 use crate::object::Object;
-use hilti_values::Reference;
-use hilti_values::{Value, Values};
 use hilti_base::NoMemory;
 use hilti_record::Record;
+use hilti_values::{Reference, Value, Values};
 
 /// The objects of a heap by place, the places that are free, and the objects that are given back but still hold others.
 /// There is room for each object to be given back.
@@ -86,7 +85,8 @@ impl Shelf {
 
     fn lower_place(&mut self, place: usize)
         requires { CanLower self.old place }
-        ensures { (s : ℕ) → Stands s self.old.cells.items place → Sheds self.old self.new (λ q. is q s) }
+        ensures { (s : ℕ) → Stands s self.old.cells.items place →
+            Sheds self.old self.new (λ q. is q s) }
     {
         if count_of(self.cells.as_slice(), place) == 1 {
             self.give_back(place);
@@ -196,7 +196,8 @@ impl Shelf {
     pub(crate) fn put(&mut self, place: usize, serial: u64, object: Object)
         requires free { slice_get self.old.cells.items place ≡ Some None }
         requires kept { self.old.kept < 2 ^ 63 }
-        ensures cells { self.new.cells.items ≡ slice_set self.old.cells.items place (Some (new_cell serial object)) }
+        ensures cells { self.new.cells.items ≡
+            slice_set self.old.cells.items place (Some (new_cell serial object)) }
         ensures kept { self.new.kept ≡ self.old.kept + 1 }
         ensures dying { self.new.dying ≡ self.old.dying }
     {
@@ -213,7 +214,7 @@ impl Shelf {
         requires { 1 ≤ times_at at.now self.old.cells.items }
         ensures ok { OnOk result (Gains self.old self.new (λ s. is s at.now)) }
         ensures err { OnErr result (self.new.cells ≡ self.old.cells) }
-        ensures full { OnErr result (IsFull at.now self.old) }
+        ensures full { OnErr result (Overflows self.old (λ s. is s at.now)) }
         ensures rest { (self.new.dying ≡ self.old.dying) × (self.new.kept ≡ self.old.kept) }
     {
         match place_of(self.cells.as_slice(), at) {
@@ -233,6 +234,7 @@ impl Shelf {
     pub(crate) fn raise_value(&mut self, value: &Value) -> Result<(), NoMemory>
         requires { Known self.old (λ s. held s value.now) }
         ensures ok { OnOk result (Gains self.old self.new (λ s. held s value.now)) }
+        ensures full { OnErr result (Overflows self.old (λ s. held s value.now)) }
         ensures rest { (self.new.dying ≡ self.old.dying) × (self.new.kept ≡ self.old.kept) }
         ensures counts { SameBut self.old self.new }
     {
@@ -249,6 +251,7 @@ impl Shelf {
     pub(crate) fn raise_values(&mut self, values: &Values) -> Result<(), NoMemory>
         requires { Known self.old (λ s. all_held s values.now) }
         ensures ok { OnOk result (Gains self.old self.new (λ s. all_held s values.now)) }
+        ensures full { OnErr result (Overflows self.old (λ s. all_held s values.now)) }
         ensures rest { (self.new.dying ≡ self.old.dying) × (self.new.kept ≡ self.old.kept) }
         ensures counts { SameBut self.old self.new }
     {
