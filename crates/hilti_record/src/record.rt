@@ -43,6 +43,24 @@ impl<T: Drop> Record<T> {
         self.fields[at] = Some(item);
     }
 
+    /// Gives a field an item, and returns what it had before.
+    pub fn replace(&mut self, at: usize, item: T) -> Option<T>
+        requires { at < length self.old }
+        ensures before { slice_get self.old at ≡ Some result }
+        ensures after { self.new ≡ slice_set self.old at (Some item) }
+    {
+        self.fields[at].replace(item)
+    }
+
+    /// Makes a field unset, and returns what it had.
+    pub fn take(&mut self, at: usize) -> Option<T>
+        requires { at < length self.old }
+        ensures before { slice_get self.old at ≡ Some result }
+        ensures after { self.new ≡ slice_set self.old at None }
+    {
+        self.fields[at].take()
+    }
+
     /// Makes a field unset. An item that was there is dropped.
     pub fn unset(&mut self, at: usize)
         requires { at < length self.old }
@@ -53,6 +71,13 @@ impl<T: Drop> Record<T> {
 }
 
 impl<T> Record<T> {
+    /// The number of fields.
+    pub fn len(&self) -> usize
+        ensures { result ≡ length self.now }
+    {
+        self.fields.len()
+    }
+
     /// The item of a field; `None` exactly where the field is unset.
     pub fn get(&self, at: usize) -> Option<&T>
         requires { at < length self.now }

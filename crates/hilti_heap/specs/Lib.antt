@@ -1,0 +1,10 @@
+pub mod Cells
+pub mod Changed
+pub mod Heaps
+pub mod Held
+pub mod Kept
+pub mod Lending
+pub mod LendsHeap
+pub mod Shelves
+pub mod Stands
+pub mod Stores

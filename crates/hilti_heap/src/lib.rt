@@ -1,0 +1,15 @@
+//! Objects, and a heap that counts the holders of each object and gives back what nothing holds.
+#![tactic(auto)]
+
+mod cells;
+mod fault;
+mod heap;
+pub mod laws;
+mod object;
+mod shelf;
+#[cfg(test)]
+mod tests;
+
+pub use fault::OpFault;
+pub use heap::Heap;
+pub use object::Object;
