@@ -1,13 +1,6 @@
-// A library with one function.
+//! What a raise and a run of a hook go on with: the handler that catches the raise, and the bodies of the hook.
 #![tactic(auto)]
 
-ghost use Rattle.std.specs.Prelude.{◌≡◌};
-ghost use Rattle.hilti_raise.specs.Echo.{echo_of};
+mod raise;
 
-// The `ensures` clause is the contract: what `echo` returns is `echo_of` of its argument, a definition
-// in `specs/Echo.antt`, which a caller's clause can cite too.
-pub fn echo(x: usize) -> usize
-    ensures { result ≡ echo_of x }
-{
-    x
-}
+pub use raise::{bodies, handler};
