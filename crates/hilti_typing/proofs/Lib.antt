@@ -5,6 +5,7 @@ pub mod Examples
 pub mod Exceptions
 pub mod Meeting
 pub mod Objects
+pub mod ProgramExamples
 pub mod Programs
 pub mod Records
 pub mod Shapes

@@ -4,6 +4,7 @@ pub mod Exceptions
 pub mod Facts
 pub mod Fits
 pub mod Laws
+pub mod ProgramExamples
 pub mod ProgramLaws
 pub mod Programs
 pub mod Types

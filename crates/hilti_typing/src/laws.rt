@@ -9,6 +9,8 @@ ghost use Rattle.hilti_typing.specs.Exceptions.{ExceptionsMakeTree};
 ghost use Rattle.hilti_typing.specs.Laws.{PlainRows, NumberRows, OwnRows, FlowRows, CallRows};
 ghost use Rattle.hilti_typing.specs.Laws.{ObjectRows, ItemRows, MapRows, StructRows, TupleRows};
 ghost use Rattle.hilti_typing.specs.Laws.{ClassifierRows, OverlayRows, PassedTests, Targets};
+ghost use Rattle.hilti_typing.specs.ProgramExamples.{whole, UntypedParts};
+ghost use Rattle.hilti_typing.specs.Programs.{AreTyped};
 ghost use Rattle.hilti_typing.specs.ProgramLaws.{TypedBlocksEnd, NamedParts, BodiesOfHooks};
 
 /// Rows on plain types meet values of the types that they name, and their target is of the type that they name.
@@ -114,4 +116,12 @@ pub fn bodies_of_hooks()
 pub fn examples()
     ensures fitting { FittingLines }
     ensures refused { RefusedLines }
+{}
+
+/// Some parts that are typed, and some that aren't: without `packet` or with one that takes only a time, with a function
+/// that stops a hook's run, with an exception that stands above itself, without the built-in exceptions, or with a body
+/// of two hooks.
+pub fn program_examples()
+    ensures typed { AreTyped whole }
+    ensures untyped { UntypedParts }
 {}
