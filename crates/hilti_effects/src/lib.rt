@@ -1,0 +1,6 @@
+//! What the calls of a program do: definitions, and what is so of them.
+#![tactic(auto)]
+
+mod ending;
+
+pub use ending::Ending;
