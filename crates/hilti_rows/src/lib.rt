@@ -8,6 +8,8 @@ mod instructions;
 mod row;
 mod sources;
 mod structs;
+#[cfg(test)]
+mod tests;
 
 
 pub use instructions::resolve;
