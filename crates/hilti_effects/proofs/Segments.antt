@@ -1,9 +1,8 @@
 -- The segments of a call: how they end, and what they send.
-use Rattle.std.proofs.Common.{◌≡◌, ◌∙◌, refl, true, ℕ, List, [], ◌∷◌, ◌++◌, map, Option, Some, None}
+use Rattle.std.proofs.Common.{◌≡◌, ◌∙◌, refl, true, ℕ, List, [], ◌∷◌, map, Option, Some, None}
 use Rattle.std.proofs.Common.{Result, Ok, Err}
 use Rattle.std.specs.List.{AllByRecursion}
 use Rattle.hilti_base.specs.declared.refusal.Raise.{Raise}
-use Rattle.hilti_tree.specs.declared.call.Call.{Call}
 use Rattle.hilti_core.specs.declared.pieces.Item.{Item}
 use Rattle.hilti_core.specs.declared.pieces.Item.TheVariants.{Line, Send}
 use Rattle.hilti_core.specs.declared.pieces.Segment.{Segment}
@@ -12,7 +11,7 @@ use Rattle.hilti_core.specs.Body.{EndsOnce, sent_calls}
 use Rattle.hilti_core.specs.Sending.{items_of}
 use Rattle.hilti_parts.specs.declared.parts.Parts.{Parts as Program}
 use Rattle.hilti_parts.specs.declared.parts.Variable.{Variable}
-use Rattle.hilti_calls.specs.Calls.{Action, Back, Back.On, Back.Out, Outcome.Ended, Outcome.Spent}
+use Rattle.hilti_calls.specs.Calls.{Back.On, Back.Out, Outcome.Ended, Outcome.Spent}
 use Rattle.hilti_calls.specs.Parts.{Mark, Mark.Plain, Mark.Cut, Part, before, parts, parts_of}
 use Rattle.hilti_heap.specs.Stores.{Answer, Answer.Done, Answer.Raised}
 use Rattle.hilti_rows.specs.declared.row.Row.{Row}
@@ -30,7 +29,7 @@ use Rattle.hilti_effects.specs.declared.ending.Ending.TheVariants as endings
 use Rattle.hilti_effects.specs.State.{State, Close, Does, GoesBack, Ends}
 use Rattle.hilti_effects.specs.Raising.{raised, as_action}
 use Rattle.hilti_effects.specs.Acting.{act, act_if, act_on, on_struct, answers, gives, prints}
-use Rattle.hilti_effects.specs.Acting.{refuses, row_at, language, fields_of, text_of}
+use Rattle.hilti_effects.specs.Acting.{row_at, language, fields_of, text_of}
 use Rattle.hilti_effects.specs.Operands.{value_at, values_at}
 use Rattle.hilti_effects.specs.Printing.{printed_trees, printed_line}
 use Rattle.hilti_heap_ops.specs.Meaning.{struct_new, struct_get, struct_set, struct_unset}
@@ -39,8 +38,8 @@ use Rattle.hilti_scalar_ops.specs.Computing.{unary_of, binary_of}
 use Rattle.hilti_typing.specs.Exceptions.{raise_number}
 use Rattle.hilti_effects.specs.Effect.{over, spent, closing, segment_of, outcome, fresh}
 use Rattle.hilti_effects.specs.Effect.{state_after, pending, waits, opens, first_of}
-use Rattle.hilti_effects.specs.Laws.{EffectsEnd, EndsAndSendsNothing}
-use Rattle.hilti_effects.proofs.Traces.{EachMark, EachLeft, trace_of, each-rest}
+use Rattle.hilti_effects.specs.Laws.{EffectsEnd}
+use Rattle.hilti_effects.proofs.Traces.{EachMark, EachLeft, each-rest}
 
 -- a line, or a suspension
 abbrev IsMark : Mark Item Close → Type 0
@@ -67,7 +66,7 @@ left-answer program p slots st t (Raised r) = left-action (raised program p slot
 
 left-print : (program : Program) (p : Position) (slots : List Value) (st : State)
     (line : Result (List ℕ) Raise) → Leaves (prints program p slots st line)
-left-print program p slots st (Ok text) = (tt , tt)
+left-print program p slots st (Ok text) = (tt, tt)
 left-print program p slots st (Err r) = left-action (raised program p slots st (raise_number r) [])
 
 left-struct : (program : Program) (p : Position) (slots : List Value) (st : State)
@@ -95,7 +94,7 @@ left-row program p slots st (rows.Select t c a b) = tt
 left-row program p slots st (rows.IsNull t a) = tt
 left-row program p slots st (rows.Print items) =
     left-print program p slots st (printed_line (printed_trees slots st.globals items))
-left-row program p slots st rows.Yield = (refl , tt)
+left-row program p slots st rows.Yield = (refl, tt)
 left-row program p slots st (rows.Call f arguments t) = tt
 left-row program p slots st (rows.Bind t f arguments) =
     left-answer program p slots st (Some t)
@@ -137,15 +136,15 @@ ends-before item (p ∷ q ∷ more) e = e
 ends-cut : (s : Segment) (more : List Segment) → s.«end» ≡ ends.Yielded → EndsOnce more
     → EndsOnce (s ∷ more)
 ends-cut s [] y e = absurd e
-ends-cut s (next ∷ more) y e = (y , e)
+ends-cut s (next ∷ more) y e = (y, e)
 
 ends-trace : (trace : List (Mark Item Close)) (last : Part Item Close)
     → AllByRecursion IsMark trace → ¬ (last.close.«end» ≡ ends.Yielded)
     → EndsOnce (segments trace last)
 ends-trace [] last each e = e
-ends-trace (Plain item ∷ trace) last (m , each) e =
+ends-trace (Plain item ∷ trace) last (m, each) e =
     ends-before item (parts trace (last ∷ [])) (ends-trace trace last each e)
-ends-trace (Cut close ∷ trace) last (m , each) e =
+ends-trace (Cut close ∷ trace) last (m, each) e =
     ends-cut (segment_of (record { items = []; close = close })) (segments trace last) m
     (ends-trace trace last each e)
 
@@ -159,10 +158,10 @@ sends-trace : (trace : List (Mark Item Close)) (last : Part Item Close)
     → AllByRecursion IsMark trace → sent_calls (items_of (segment_of last ∷ [])) ≡ []
     → sent_calls (items_of (segments trace last)) ≡ []
 sends-trace [] last each s = s
-sends-trace (Plain (Line text) ∷ trace) last (m , each) s =
+sends-trace (Plain (Line text) ∷ trace) last (m, each) s =
     sends-before text (parts trace (last ∷ [])) ∙ sends-trace trace last each s
-sends-trace (Plain (Send to call) ∷ trace) last (m , each) s = absurd m
-sends-trace (Cut close ∷ trace) last (m , each) s = sends-trace trace last each s
+sends-trace (Plain (Send to call) ∷ trace) last (m, each) s = absurd m
+sends-trace (Cut close ∷ trace) last (m, each) s = sends-trace trace last each s
 
 -- the last segment
 
@@ -197,7 +196,7 @@ pub effects-end : EffectsEnd
 effects-end program fuel number finished call =
     let st = state_after program fuel (fresh program number) finished in
     let marks = each-rest IsMark (language program) (left program) (pending program)
-            (waits program (first_of program st.ran) call)
-            (opens program (first_of program st.ran) call) (record st { ran = true }) fuel in
+    (waits program (first_of program st.ran) call)
+    (opens program (first_of program st.ran) call) (record st { ran = true }) fuel in
     let e = segments-end program call.function (outcome program fuel st call) marks in
     record { ends = e.ends_once; sends = e.sends_none }

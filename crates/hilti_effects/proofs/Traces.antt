@@ -16,7 +16,7 @@ EachMark P o = AllByRecursion P (trace_of o)
 each-append : {I : Type 0} (P : I → Type 0) (xs ys : List I) → AllByRecursion P xs
     → AllByRecursion P ys → AllByRecursion P (xs ++ ys)
 each-append P [] ys a b = b
-each-append P (x ∷ xs) ys (a , more) b = (a , each-append P xs ys more b)
+each-append P (x ∷ xs) ys (a, more) b = (a, each-append P xs ys more b)
 
 each-emit : {S R I : Type 0} (P : I → Type 0) (items : List I) (o : Outcome S R I)
     → AllByRecursion P items → EachMark P o → EachMark P (emit items o)
