@@ -8,7 +8,8 @@ use Rattle.hilti_tree.specs.declared.call.Call.{Call}
 use Rattle.hilti_core.specs.declared.pieces.Item.{Item}
 use Rattle.hilti_core.specs.declared.pieces.Item.TheVariants.{Send, Line}
 use Rattle.hilti_core.specs.declared.pieces.Segment.{Segment}
-use Rattle.hilti_core.specs.declared.pieces.End.TheVariants.{Yielded}
+use Rattle.hilti_core.specs.declared.pieces.End.TheVariants.{Yielded, Returned, Raised, OutOfFuel}
+use Rattle.hilti_core.specs.declared.pieces.End.{End}
 use Rattle.hilti_core.specs.declared.event.Event.{Event}
 use Rattle.hilti_core.specs.declared.event.Event.TheVariants.{Put}
 use Rattle.hilti_core.specs.Sending.{Effect, Sender.Thread, Text, letters, lines, put_at}
@@ -22,6 +23,8 @@ use Rattle.hilti_pool.specs.declared.seat.Place.TheVariants.{Fresh, Idle, Suspen
 use Rattle.hilti_pool.specs.declared.seat.Posted.{Posted}
 use Rattle.hilti_pool.specs.declared.hall.Hall.{Hall}
 use Rattle.hilti_pool.specs.Hall.{Face, face, back_home, HasSeat, receivers, posted_by, IsResting, IsAtHome}
+use Rattle.hilti_pool.specs.Hall.{ComesBack}
+use Rattle.hilti_pool.specs.ComingHome.{ComesToRest}
 use Rattle.hilti_pool.specs.Work.{IsDone}
 use Rattle.hilti_pool.specs.Stands.{MailStands, PlaceStands, SeatStands, HallStands, StandsFor}
 use Rattle.hilti_pool.proofs.Plays.{play_push, puts}
@@ -47,6 +50,13 @@ ends_as segment (x ∷ rest) e = e.0
 
 pub some_same : {A : Type 0} (x y : A) → Some x ≡ Some y → x ≡ y
 some_same x y e = cc
+
+-- a segment is yielded or not
+is_yielded : (e : End) → (e ≡ Yielded) ⊎ ¬ (e ≡ Yielded)
+is_yielded Yielded = inl refl
+is_yielded Returned = inr (λ x. cc)
+is_yielded (Raised exception) = inr (λ x. cc)
+is_yielded OutOfFuel = inr (λ x. cc)
 
 module _ {V : Type 0} (effect : Effect) (sound : Call → Type 0) (runs : V → Runs) where
   -- where a worker has a thread, its place says so
@@ -166,3 +176,27 @@ module _ {V : Type 0} (effect : Effect) (sound : Call → Type 0) (runs : V → 
       split : (r : ℕ) (b : Bool) → (cond b (back_home place (lines segment.items) (face old thread.n)) (face old r)).place ≡ cond b place (face old r).place
       split r true = refl
       split r false = refl
+
+  -- a worker put its thread back, by what each part of the pool is then
+  pub put_back : (fed : List Call) (limit : ℕ) (journal events : List Event) (started segments : ℕ) (old new : Hall V) (worker : ℕ) (thread : ThreadId) (vt : V) (segment : Segment) →
+      (s : StandsFor effect sound runs fed limit journal started segments old) → IsKept fed limit s.c → IsSoundCore sound s.c → HasSegments effect sound → IsDone effect runs worker thread.n vt segment s.c →
+      All (HasSeat old) (receivers segment.items) → (segment.end ≡ Yielded → ComesToRest worker thread vt segment.items (lines segment.items) old new) →
+      (¬ (segment.end ≡ Yielded) → ComesBack worker thread (Idle vt) segment.items (lines segment.items) old new) → events ≡ journal ++ Put worker ∷ [] → StandsFor effect sound runs fed limit events started segments new
+  put_back fed limit journal events started segments old new worker thread vt segment s kept sound_core has d settled yielded ended noted =
+      subst (λ x. StandsFor effect sound runs fed limit x started segments new) (sym noted) (by_end (is_yielded segment.end))
+    where
+      e : EndsAs segment d.rest
+      e = how_it_ends has s.c sound_core worker thread.n vt segment d
+
+      by_end : (segment.end ≡ Yielded) ⊎ ¬ (segment.end ≡ Yielded) → StandsFor effect sound runs fed limit (journal ++ Put worker ∷ []) started segments new
+      by_end (inl is) =
+          let b = yielded is in
+          came_home fed limit journal started segments old new worker thread vt segment (Suspended vt) s kept d
+          (suspended_after thread.n (s.c.thread thread.n) d.running segment d.rest vt e is d.runs_it) tt b.faces b.seats settled b.mail b.outs
+          (rests_suspended old new thread.n vt (lines segment.items) b.faces b.resting s.hall_stands.resting)
+      by_end (inr not_so) =
+          let b = ended not_so in
+          came_home fed limit journal started segments old new worker thread vt segment (Idle vt) s kept d
+          (idle_after thread.n (s.c.thread thread.n) d.running segment d.rest vt e not_so d.runs_it) tt b.faces b.seats settled b.mail b.outs
+          (rests_idle old new thread.n (Idle vt) (lines segment.items) (λ x. x)
+          (λ x. subst IsResting (was_out fed limit worker thread.n s.c old s.hall_stands kept d.out) x) b.faces (ap (λ v. v.items) b.resting) s.hall_stands.resting)

@@ -7,3 +7,4 @@ pub mod Rooms
 pub mod Causes
 pub mod Items
 pub mod Telling
+pub mod Taking

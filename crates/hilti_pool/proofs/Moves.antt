@@ -23,12 +23,12 @@ use Rattle.hilti_pool.specs.declared.seat.Place.TheVariants.{Fresh, Idle, Suspen
 use Rattle.hilti_pool.specs.declared.seat.Posted.{Posted}
 use Rattle.hilti_pool.specs.declared.hall.Hall.{Hall}
 use Rattle.hilti_pool.specs.Hall.{Face, face, face_of, seat_at, gone, HasSeat, Grows, Leaves, Wakes, TakesFirst, IsResting, IsAtHome, WasIdle}
-use Rattle.hilti_pool.specs.Work.{GoesOn, Begins}
+use Rattle.hilti_pool.specs.Work.{HasWork, IsJob}
 use Rattle.hilti_pool.specs.Stands.{Delivery, MailStands, PlaceStands, SeatStands, HallStands, StandsFor}
 use Rattle.hilti_pool.specs.Threads.{calls_of}
 use Rattle.hilti_pool.proofs.Plays.{play_push, feeds, goes, starts}
 use Rattle.hilti_pool.proofs.Mail.{mail_posts, Heads, mail_starts, without}
-use Rattle.hilti_pool.proofs.Seats.{already_awake, rests_left, outs_left, one_if, calls_of-push, calls_of-within}
+use Rattle.hilti_pool.proofs.Seats.{put_here, already_awake, rests_left, outs_left, one_if, calls_of-push, calls_of-within}
 
 module _ {V : Type 0} (effect : Effect) (sound : Call → Type 0) (runs : V → Runs) where
   -- a thread that isn't at home can't be out, and so on: what a place at home says
@@ -45,9 +45,8 @@ module _ {V : Type 0} (effect : Effect) (sound : Call → Type 0) (runs : V → 
   pub resumed : (fed : List Call) (limit : ℕ) (journal : List Event) (started segments : ℕ) (old new : Hall V) (worker : ℕ) (thread : ThreadId) (vt : V) →
       (s : StandsFor effect sound runs fed limit journal started segments old) → s.c.out worker ≡ None → (face old thread.n).place ≡ Suspended vt → Leaves worker thread 0 old new →
       Wakes thread.n old.resting.items new.resting.items → new.mail.items ≡ old.mail.items →
-      GoesOn runs thread.n (s.c.thread thread.n) (Some vt) × StandsFor effect sound runs fed limit (journal ++ Take worker thread ∷ []) started (segments + 1) new
+      (t : StandsFor effect sound runs fed limit (journal ++ Take worker thread ∷ []) started (segments + 1) new) × IsJob sound runs worker thread.n (Some vt) None t.c
   resumed fed limit journal started segments old new worker thread vt s free place l w mail = (
-    record { running = at.1.0; suspended = at.1.1; runs_it = at.1.2 },
     record {
       c = goes_on worker thread.n s.c;
       is = play_push effect limit journal (Take worker thread) (Some (core_of_none fed)) s.c s.is ∙ goes effect limit worker thread s.c at.1.0 free at.0 at.1.1;
@@ -72,6 +71,11 @@ module _ {V : Type 0} (effect : Effect) (sound : Call → Type 0) (runs : V → 
         outs = outs_left old new worker thread 0 l (subst IsAtHome (sym place) tt) h.outs;
       };
     },
+    record {
+      out = put_here s.c.out worker (Some thread.n);
+      work = subst (λ x. HasWork sound runs thread.n x (Some vt) None) (sym (put_here s.c.thread thread.n (record (s.c.thread thread.n) { worker = Some worker })))
+          (record { running = at.1.0; busy = at.1.1; runs_it = at.1.2 });
+    },
   )
     where
       h : HallStands runs s.c old
@@ -89,7 +93,7 @@ module _ {V : Type 0} (effect : Effect) (sound : Call → Type 0) (runs : V → 
   idle_place started r resident x None s is = let at = seat_fits started r resident x Fresh s is in (at.0, at.1, at.2)
   idle_place started r resident x (Some vt) s is = let at = seat_fits started r resident x (Idle vt) s is in (at.0, at.1, at.2)
 
-  idle_home : (place : Place V) (vt : Option V) → WasIdle vt place → IsAtHome place × ¬ IsResting place
+  pub idle_home : (place : Place V) (vt : Option V) → WasIdle vt place → IsAtHome place × ¬ IsResting place
   idle_home place None is = (subst IsAtHome (sym is) tt, λ x. subst IsResting is x)
   idle_home place (Some vt) is = (subst IsAtHome (sym is) tt, λ x. subst IsResting is x)
 
@@ -99,23 +103,11 @@ module _ {V : Type 0} (effect : Effect) (sound : Call → Type 0) (runs : V → 
   idle_few finished (Some running) n e h = absurd cc
 
   -- a worker took a thread to begin the first call that waited for it
-  pub begun : (fed : List Call) (limit : ℕ) (journal : List Event) (started segments : ℕ) (old new : Hall V) (worker : ℕ) (thread : ThreadId) (vt : Option V) (call : Call) →
+  pub begins_call : (fed : List Call) (limit : ℕ) (journal : List Event) (started segments : ℕ) (old new : Hall V) (worker : ℕ) (thread : ThreadId) (vt : Option V) (call : Call) →
       (s : StandsFor effect sound runs fed limit journal started segments old) → IsSoundCore sound s.c → s.c.out worker ≡ None → length s.c.started < limit →
       WasIdle vt (face old thread.n).place → Leaves worker thread 1 old new → new.resting.items ≡ old.resting.items → TakesFirst thread.n call old.mail.items new.mail.items →
-      Begins sound runs thread.n s.c vt call × StandsFor effect sound runs fed limit (journal ++ Take worker thread ∷ []) (started + 1) (segments + 1) new
-  begun fed limit journal started segments old new worker thread vt call s sound_core free few place l resting takes = (
-    record {
-      idle = at.1;
-      head = heads.head;
-      rest = heads.rest;
-      inbox = heads.inbox;
-      call = heads.call;
-      sound_call = subst sound heads.call (All-head (λ w. sound w.message.call) heads.head heads.rest (subst (All (λ w. sound w.message.call)) heads.inbox (sound_core.inboxes thread.n)));
-      runs_it = at.2;
-      few = let a = idle_few (s.c.thread thread.n).finished (s.c.thread thread.n).running (face old thread.n).calls at.1 seat.few in
-          let b = calls_of-within thread.n s.c.started in
-          omega (arith, a, b, seat.calls, few, s.high);
-    },
+      (t : StandsFor effect sound runs fed limit (journal ++ Take worker thread ∷ []) (started + 1) (segments + 1) new) × IsJob sound runs worker thread.n vt (Some call) t.c
+  begins_call fed limit journal started segments old new worker thread vt call s sound_core free few place l resting takes = (
     record {
       c = begins worker thread.n heads.head heads.rest s.c;
       is = play_push effect limit journal (Take worker thread) (Some (core_of_none fed)) s.c s.is ∙ starts effect limit worker thread s.c heads.head heads.rest free at.0 at.1 heads.inbox few;
@@ -134,6 +126,17 @@ module _ {V : Type 0} (effect : Effect) (sound : Call → Type 0) (runs : V → 
         resting = rests_left old new worker thread 1 l (subst (Wakes thread.n old.resting.items) (sym resting) (already_awake old thread.n h.resting quiet.1)) h.resting;
         outs = outs_left old new worker thread 1 l quiet.0 h.outs;
       };
+    },
+    record {
+      out = put_here s.c.out worker (Some thread.n);
+      work = subst (λ x. HasWork sound runs thread.n x vt (Some call)) (sym (put_here s.c.thread thread.n taken)) (record {
+        busy = ap (λ x. Some (record { call = x; given = 0 })) heads.call;
+        sound_call = subst sound heads.call (All-head (λ w. sound w.message.call) heads.head heads.rest (subst (All (λ w. sound w.message.call)) heads.inbox (sound_core.inboxes thread.n)));
+        runs_it = at.2;
+        few = let a = idle_few (s.c.thread thread.n).finished (s.c.thread thread.n).running (face old thread.n).calls at.1 seat.few in
+            let b = calls_of-within thread.n s.c.started in
+            omega (arith, a, b, seat.calls, few, s.high);
+      });
     },
   )
     where

@@ -55,6 +55,17 @@ module _ {V : Type 0} where
   rooms_stay value None a b len cap new_len new_cap g same more h = tt
   rooms_stay value (Some items) a b len cap new_len new_cap g same more h = (room_stays (value items) a b g h.0, omega (arith, h.1, same, more))
 
+  -- room was made, one part after another
+  pub room_made : (items : List Item) (count : ℕ) (a b d : Hall V) → count ≡ length items → deque_len a.mail + count ≤ deque_capacity a.mail → vec_len a.resting + 1 ≤ vec_capacity a.resting →
+      vec_len a.outs + 1 ≤ vec_capacity a.outs → Grows a b → All (HasSeat b) (receivers items) → Grows b d → All (λ away. HasLogRoom count d away.thread.n) d.outs.items → HasRoom items d
+  room_made items count a b d is mail resting outs g seats h logs = record {
+    mail = omega (arith, is, mail, g.mail_len, g.mail_room, h.mail_len, h.mail_room);
+    resting = omega (arith, resting, g.resting_len, g.resting_room, h.resting_len, h.resting_room);
+    outs = omega (arith, outs, g.outs_len, g.outs_room, h.outs_len, h.outs_room);
+    seats = All-weaker (HasSeat b) (HasSeat d) h.seats (receivers items) seats;
+    logs = subst (λ n. All (λ away. HasLogRoom n d away.thread.n) d.outs.items) is logs;
+  }
+
 -- the room that a pool has told
 pub has_room : {X : Type 0} (value : X → List Item) (room : Option X) (P : X → Type 0) → IsSome (option_map value room) → IfSome room P → (x : X) × P x
 has_room value None P some h = absurd cc

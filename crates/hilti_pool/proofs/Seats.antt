@@ -14,6 +14,10 @@ use Rattle.hilti_pool.specs.declared.hall.Hall.{Hall}
 use Rattle.hilti_pool.specs.Hall.{Face, face, gone, back_home, Leaves, Wakes, ComesBack, IsResting, IsAtHome}
 use Rattle.hilti_pool.specs.Threads.{calls_of}
 
+-- the value at the number where it was put
+pub put_here : {A : Type 0} (f : ℕ → A) (n : ℕ) (v : A) → put_at f n v n ≡ v
+put_here f n v = ap (λ b. cond b v (f n)) (eq-eqb n n refl)
+
 abbrev pub one_if : Bool → ℕ
 one_if b = cond b 1 0
 

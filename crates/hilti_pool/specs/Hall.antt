@@ -59,6 +59,11 @@ pub record TakesFirst (r : ℕ) (taken : Call) (old new : List Posted) : Type 0 
 abbrev pub Wakes : ℕ → List ℕ → List ℕ → Type 0
 Wakes thread old new = (r : ℕ) → Contains new r ↔ (Contains old r × (r ≢ thread))
 
+-- how many calls begin: none or one
+abbrev pub count_begun : Option Call → ℕ
+count_begun None = 0
+count_begun (Some call) = 1
+
 -- the worker has no thread
 abbrev pub HasNothing : ℕ → List Away → Type 0
 HasNothing worker outs =
@@ -179,6 +184,38 @@ module _ {V : Type 0} where
   abbrev pub WasIdle : Option V → Place V → Type 0
   WasIdle None place = place ≡ Fresh
   WasIdle (Some vt) place = place ≡ Idle vt
+
+  -- a thread at home that a call waits for
+  pub record CanBegin (hall : Hall V) (r : ℕ) : Type 0 where
+    pub seat : HasSeat hall r
+    pub home : IsAtHome (face hall r).place
+    pub waits : ¬ NoneFor r hall.mail.items
+
+  -- a thread that is suspended at home, or, where calls may start, one at home that a call waits for
+  abbrev pub CanGo : Bool → Hall V → ℕ → Type 0
+  CanGo may hall r = IsResting (face hall r).place
+      ⊎ ((may ≡ true) × IsAtHome (face hall r).place × ¬ NoneFor r hall.mail.items)
+
+  -- the worker has the thread, which was suspended
+  pub record GoesOut (worker : ℕ) (thread : ThreadId) (vt : Option V) (old new : Hall V) :
+      Type 0 where
+    pub place : IsSomeAnd vt (λ vt. (face old thread.n).place ≡ Suspended vt)
+    pub leaves : Leaves worker thread 0 old new
+    pub resting : Wakes thread.n old.resting.items new.resting.items
+    pub mail : new.mail.items ≡ old.mail.items
+
+  -- the worker has the thread, which begins the first call that waited for it
+  pub record SetsOut (worker : ℕ) (thread : ThreadId) (vt : Option V) (call : Call)
+      (old new : Hall V) : Type 0 where
+    pub place : WasIdle vt (face old thread.n).place
+    pub leaves : Leaves worker thread 1 old new
+    pub resting : new.resting.items ≡ old.resting.items
+    pub mail : TakesFirst thread.n call old.mail.items new.mail.items
+
+  -- one of both, by whether a call begins
+  abbrev pub Departs : ℕ → ThreadId → Option V → Option Call → Hall V → Hall V → Type 0
+  Departs worker thread vt None old new = GoesOut worker thread vt old new
+  Departs worker thread vt (Some call) old new = SetsOut worker thread vt call old new
 
   -- where one worker runs all: a thread at rest of least number, else that of the first call that
   -- waits

@@ -1,6 +1,7 @@
 pub mod State
 pub mod Readiness
 pub mod Work
+pub mod Taking
 pub mod Threads
 pub mod Hall
 pub mod Stands

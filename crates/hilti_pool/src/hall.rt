@@ -1,5 +1,5 @@
 ghost use Rattle.std.specs.Prelude.{◌≡◌, ◌+◌, ◌<◌, ◌≤◌, ◌^◌, ◌↔◌, ℕ, [], ◌∷◌, ◌++◌, length, IsTrue};
-ghost use Rattle.std.specs.Prelude.{IsSome, IfSome, MatchOption, IfNone, None, MatchBool, not};
+ghost use Rattle.std.specs.Prelude.{◌⊎◌, IsSome, IfSome, MatchOption, IfNone, None, MatchBool, not};
 ghost use Rattle.std.specs.Prelude.{filter, ◌==◌, take, OnOk, vec_len, vec_capacity};
 ghost use Rattle.std.specs.List.{All, Contains};
 ghost use Rattle.std.specs.VecDeque.{deque_len, deque_capacity};
@@ -11,6 +11,7 @@ ghost use Rattle.hilti_pool.specs.Hall.{face, back_home, seat_at, HasSeat, HasLo
 ghost use Rattle.hilti_pool.specs.Hall.{Grows, Leaves, Wakes, ComesBack, TakesFirst, posted_by};
 ghost use Rattle.hilti_pool.specs.Hall.{receivers, NoneFor, IsFirstFor, IsAtHome, IsResting};
 ghost use Rattle.hilti_pool.specs.Hall.{NoneAtHome, IsAwaited, MayGo, NoneMayGo, WasIdle};
+ghost use Rattle.hilti_pool.specs.Hall.{CanBegin, CanGo, Departs};
 ghost use Rattle.hilti_pool.specs.Hall.{HasNothing, HasThread, ComesFirst};
 
 use crate::seat::{Away, Place, Posted, Seat};
@@ -126,6 +127,18 @@ impl<T: Drop> Hall<T> {
         Ok(())
     }
 
+    /// Makes room to post these items, by any thread that is out, and to take a thread or to give one back.
+    pub(crate) fn reserve(&mut self, items: &Items) -> Result<(), NoMemory>
+        ensures grows { Grows self.old self.new }
+        ensures room { OnOk result (HasRoom items.now self.new) }
+    {
+        let count = items.len();
+        self.reserve_places(count)?;
+        self.settle_receivers(items)?;
+        self.reserve_logs(count)?;
+        Ok(())
+    }
+
     /// Is the thread at home?
     pub(crate) fn is_home(&self, thread: ThreadId) -> bool
         ensures { IsTrue result ↔ IsAtHome (face self.now thread.n).place }
@@ -202,6 +215,20 @@ impl<T: Drop> Hall<T> {
         None
     }
 
+    /// Does any call wait?
+    pub(crate) fn has_any_mail(&self) -> bool
+        ensures { MatchBool result (¬ (self.now.mail.items ≡ [])) (self.now.mail.items ≡ []) }
+    {
+        !self.mail.is_empty()
+    }
+
+    /// Is some thread out?
+    pub(crate) fn has_out(&self) -> bool
+        ensures { MatchBool result (¬ (self.now.outs.items ≡ [])) (self.now.outs.items ≡ []) }
+    {
+        !self.outs.is_empty()
+    }
+
     /// The thread of least number that is suspended at home, else the one that the first call waits for.
     pub(crate) fn first_arrived(&self) -> Option<ThreadId>
         ensures { ComesFirst self.now result }
@@ -236,6 +263,19 @@ impl<T: Drop> Hall<T> {
         }
     }
 
+    /// Is the thread suspended at home, or, where calls may start, at home with a call that waits for it?
+    pub(crate) fn can_go(&self, thread: ThreadId, may_start: bool) -> bool
+        ensures { IsTrue result ↔ CanGo may_start self.now thread.n }
+    {
+        if self.is_suspended(thread) {
+            return true;
+        }
+        if may_start && self.is_home(thread) {
+            return self.has_mail(thread);
+        }
+        false
+    }
+
     /// A thread that is suspended at home, or, where calls may start, one at home that a call waits for.
     pub(crate) fn any_ready(&self, may_start: bool) -> Option<ThreadId>
         ensures { MatchOption result (NoneMayGo may_start self.now) (MayGo may_start self.now) }
@@ -249,8 +289,23 @@ impl<T: Drop> Hall<T> {
         None
     }
 
+    /// A worker takes a thread, to go on with its call or to begin the first one that waits for it.
+    pub(crate) fn send_out(&mut self, worker: u32, thread: ThreadId) -> (Option<T>, Option<Call>)
+        requires can { IsResting (face self.old thread.n).place ⊎ CanBegin self.old thread.n }
+        requires room { vec_len self.old.outs + 1 ≤ vec_capacity self.old.outs }
+        requires few { (face self.old thread.n).calls ≤ 100000000 }
+        ensures { Departs worker thread result.0 result.1 self.old self.new }
+    {
+        if self.is_suspended(thread) {
+            let vt = self.resume(worker, thread);
+            return (Some(vt), None);
+        }
+        let (vt, call) = self.begin(worker, thread);
+        (vt, Some(call))
+    }
+
     /// A worker takes a thread that is suspended.
-    pub(crate) fn resume(&mut self, worker: u32, thread: ThreadId) -> T
+    fn resume(&mut self, worker: u32, thread: ThreadId) -> T
         requires suspended { IsResting (face self.old thread.n).place }
         requires room { vec_len self.old.outs + 1 ≤ vec_capacity self.old.outs }
         requires few { (face self.old thread.n).calls < 2 ^ 64 }
@@ -267,13 +322,13 @@ impl<T: Drop> Hall<T> {
     }
 
     /// A worker takes a thread to begin the first call that waits for it.
-    pub(crate) fn begin(&mut self, worker: u32, thread: ThreadId) -> (Option<T>, Call)
+    fn begin(&mut self, worker: u32, thread: ThreadId) -> (Option<T>, Call)
         requires seat { HasSeat self.old thread.n }
         requires home { IsAtHome (face self.old thread.n).place
             × ¬ IsResting (face self.old thread.n).place }
         requires waits { ¬ NoneFor thread.n self.old.mail.items }
         requires room { vec_len self.old.outs + 1 ≤ vec_capacity self.old.outs }
-        requires few { (face self.old thread.n).calls < 100000000 }
+        requires few { (face self.old thread.n).calls ≤ 100000000 }
         ensures place { WasIdle result.0 (face self.old thread.n).place }
         ensures leaves { Leaves worker thread 1 self.old self.new }
         ensures resting { self.new.resting ≡ self.old.resting }

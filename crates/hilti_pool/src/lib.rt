@@ -4,10 +4,13 @@
 #![tactic(auto)]
 
 mod hall;
+mod job;
 mod pool;
 mod queries;
 mod seat;
 #[cfg(test)]
 mod tests;
+mod work;
 
+pub use job::{Job, Taken};
 pub use pool::Pool;

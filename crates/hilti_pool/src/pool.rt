@@ -152,7 +152,7 @@ fn admit<T: Drop>(
 }
 
 /// Adds an event to a journal that has room for it.
-fn note(journal: &mut Vec<Event>, event: Event)
+pub(crate) fn note(journal: &mut Vec<Event>, event: Event)
     requires { vec_len journal.old + 1 ≤ vec_capacity journal.old }
     ensures { journal.new.items ≡ journal.old.items ++ event ∷ [] }
 {

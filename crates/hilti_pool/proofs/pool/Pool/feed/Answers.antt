@@ -1,8 +1,6 @@
 use Rattle.std.proofs.Common.{subst, sym, vec_len, vec_capacity}
 use Rattle.hilti_pool.proofs.Moves.{stays, fed_on}
 use Rattle.hilti_pool.proofs.Rooms.{rooms_stay}
-use Rattle.hilti_pool.proofs.Homecoming.{came_home}
-use Rattle.hilti_pool.proofs.Causes.{may_begin}
 use Rattle.hilti_pool.proofs.pool.Pool.feed.Goals as goal
 
 pub invariant_of-self : goal.invariant_of-self
