@@ -6,3 +6,4 @@ pub mod Threads
 pub mod Hall
 pub mod Stands
 pub mod ComingHome
+pub mod Entries

@@ -29,6 +29,15 @@ abbrev pub HasWork : {V : Type 0} → (Call → Type 0) → (V → Runs) → ℕ
 HasWork sound runs r resident vt None = GoesOn runs r resident vt
 HasWork sound runs r resident vt (Some call) = Begins sound runs r resident vt call
 
+-- some thread has this work
+abbrev pub CanRun : {V : Type 0} → (Call → Type 0) → (V → Runs) → ℕ → Option V → Option Call
+    → Type 0
+CanRun sound runs r vt next = (resident : Resident) × HasWork sound runs r resident vt next
+
+-- the virtual thread is that of the job, or a fresh one where the job has none
+abbrev pub IsHeld : {V : Type 0} → (V → Runs) → ℕ → Option V → V → Type 0
+IsHeld runs r vt held = MatchOption vt (runs held r [] None) (λ vt. held ≡ vt)
+
 -- the worker has the thread, and this is its job
 pub record IsJob {V : Type 0} (sound : Call → Type 0) (runs : V → Runs) (worker r : ℕ)
     (vt : Option V) (next : Option Call) (c : Core) : Type 0 where

@@ -3,6 +3,7 @@
 //! and put back by the hall that is here.
 #![tactic(auto)]
 
+mod entries;
 mod hall;
 mod job;
 mod pool;
@@ -12,5 +13,6 @@ mod seat;
 mod tests;
 mod work;
 
+pub use entries::{Entry, Subject};
 pub use job::{Job, Taken};
 pub use pool::Pool;

@@ -1,6 +1,7 @@
 ghost use Rattle.std.specs.Prelude.{◌≡◌};
 ghost use Rattle.hilti_pool.specs.Hall.{count_begun};
 
+use crate::entries::Entry;
 use crate::job::{Job, Taken};
 use crate::pool::{Pool, note};
 use hilti_base::{NoMemory, ThreadId};
@@ -10,7 +11,9 @@ use std::snapshot::Snapshot;
 
 impl<B: Body> Pool<B> {
     ghost use Rattle.std.specs.Prelude.{◌≡◌, ◌↔◌, None, Some, true, false, IsSome, IsTrue, OnOk, OnErr};
+    ghost use Rattle.std.specs.Prelude.{[], ◌∷◌, ◌++◌};
     ghost use Rattle.hilti_pool.specs.State.{InCore, after_take, after_put};
+    ghost use Rattle.hilti_pool.specs.Entries.{entries_of};
     ghost use Rattle.hilti_pool.specs.Readiness.{IsReady};
     ghost use Rattle.hilti_pool.specs.Taking.{HasCause, Changes, IfJob};
     ghost use Rattle.hilti_pool.specs.Work.{IsJob, IsDone};
@@ -46,6 +49,8 @@ impl<B: Body> Pool<B> {
         ensures job { InCore B.effect self.new (IsJob (B.sound self.new.about)
             (B.runs self.new.about) worker thread.n result.vt result.next) }
         ensures pool { self.new ≡ after_take worker thread self.old }
+        ensures entries { entries_of self.new
+            ≡ entries_of self.old ++ Entry.Take worker thread ∷ [] }
     {
         let (vt, next) = self.hall.send_out(worker, thread);
         note(&mut self.journal, Event::Take { worker, thread });
@@ -64,6 +69,8 @@ impl<B: Body> Pool<B> {
         ensures pool { Changes worker result self.old self.new }
         ensures job { IfJob result (λ job. InCore B.effect self.new (IsJob (B.sound self.new.about)
             (B.runs self.new.about) worker job.thread.n job.vt job.next)) }
+        ensures entries { IfJob result (λ job. entries_of self.new
+            ≡ entries_of self.old ++ Entry.Take worker job.thread ∷ []) }
     {
         if self.given_up {
             return Taken::Broken;
@@ -89,7 +96,8 @@ impl<B: Body> Pool<B> {
         requires room { self.old.room ≡ Some segment.items }
         requires done { InCore B.effect self.old (IsDone (B.effect self.old.about)
             (B.runs self.old.about) worker thread.n vt segment) }
-        ensures { self.new ≡ after_put worker self.old }
+        ensures pool { self.new ≡ after_put worker self.old }
+        ensures entries { entries_of self.new ≡ entries_of self.old ++ Entry.Put worker ∷ [] }
     {
         let Segment { items, end } = segment;
         self.hall.give_back(worker, thread, vt, items, end);
