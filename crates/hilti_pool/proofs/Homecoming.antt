@@ -26,6 +26,7 @@ use Rattle.hilti_pool.specs.Hall.{Face, face, back_home, HasSeat, receivers, pos
 use Rattle.hilti_pool.specs.Hall.{ComesBack}
 use Rattle.hilti_pool.specs.ComingHome.{ComesToRest}
 use Rattle.hilti_pool.specs.Work.{IsDone}
+use Rattle.hilti_pool.specs.Roll.{IsRoll}
 use Rattle.hilti_pool.specs.Stands.{MailStands, PlaceStands, SeatStands, HallStands, StandsFor}
 use Rattle.hilti_pool.proofs.Plays.{play_push, puts}
 use Rattle.hilti_pool.proofs.Mail.{mail_posts, posted-deliveries}
@@ -127,9 +128,9 @@ module _ {V : Type 0} (effect : Effect) (sound : Call → Type 0) (runs : V → 
       PlaceStands runs thread.n (after_segment (s.c.thread thread.n) d.running segment d.rest) place → IsAtHome place →
       ((r : ℕ) → face new r ≡ put_at (face old) thread.n (back_home place (lines segment.items) (face old thread.n)) r) → ((r : ℕ) → HasSeat old r → HasSeat new r) →
       All (HasSeat old) (receivers segment.items) → new.mail.items ≡ old.mail.items ++ posted_by segment.items →
-      new.outs.items ≡ filter (λ away. not (eqb away.worker worker)) old.outs.items → RestsAre new →
+      new.outs.items ≡ filter (λ away. not (eqb away.worker worker)) old.outs.items → new.roll ≡ old.roll → RestsAre new →
       StandsFor effect sound runs fed limit (journal ++ Put worker ∷ []) started segments new
-  came_home fed limit journal started segments old new worker thread vt segment place s kept d stands home faces seats room mail outs rests = record {
+  came_home fed limit journal started segments old new worker thread vt segment place s kept d stands home faces seats room mail outs roll rests = record {
     c = comes_home worker thread.n d.running segment d.rest s.c;
     is = play_push effect limit journal (Put worker) (Some (core_of_none fed)) s.c s.is ∙ puts effect limit worker thread.n s.c d.running segment d.rest d.out d.busy d.next;
     unfed = s.unfed;
@@ -158,6 +159,7 @@ module _ {V : Type 0} (effect : Effect) (sound : Call → Type 0) (runs : V → 
       outs = outs_back old new worker thread place home (λ r. ap (λ x. x.place) (faces r) ∙ split r (eqb r thread.n)) (outs_by worker old.outs.items new.outs.items outs)
           (λ t is. some_same t.n thread.n (sym (kept.seats.sits t.n worker (subst (PlaceStands runs t.n (s.c.thread t.n)) is (h.seats t.n).place).0) ∙ d.out))
           (was_out fed limit worker thread.n s.c old h kept d.out) h.outs;
+      roll = subst (IsRoll s.c.started) (sym (ap (λ v. v.items) roll)) h.roll;
     };
   }
     where
@@ -192,11 +194,11 @@ module _ {V : Type 0} (effect : Effect) (sound : Call → Type 0) (runs : V → 
       by_end (inl is) =
           let b = yielded is in
           came_home fed limit journal started segments old new worker thread vt segment (Suspended vt) s kept d
-          (suspended_after thread.n (s.c.thread thread.n) d.running segment d.rest vt e is d.runs_it) tt b.faces b.seats settled b.mail b.outs
+          (suspended_after thread.n (s.c.thread thread.n) d.running segment d.rest vt e is d.runs_it) tt b.faces b.seats settled b.mail b.outs b.roll
           (rests_suspended old new thread.n vt (lines segment.items) b.faces b.resting s.hall_stands.resting)
       by_end (inr not_so) =
           let b = ended not_so in
           came_home fed limit journal started segments old new worker thread vt segment (Idle vt) s kept d
-          (idle_after thread.n (s.c.thread thread.n) d.running segment d.rest vt e not_so d.runs_it) tt b.faces b.seats settled b.mail b.outs
+          (idle_after thread.n (s.c.thread thread.n) d.running segment d.rest vt e not_so d.runs_it) tt b.faces b.seats settled b.mail b.outs b.roll
           (rests_idle old new thread.n (Idle vt) (lines segment.items) (λ x. x)
           (λ x. subst IsResting (was_out fed limit worker thread.n s.c old s.hall_stands kept d.out) x) b.faces (ap (λ v. v.items) b.resting) s.hall_stands.resting)

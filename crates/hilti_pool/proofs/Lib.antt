@@ -8,5 +8,5 @@ pub mod Causes
 pub mod Items
 pub mod Telling
 pub mod Taking
-pub mod Running
+pub mod Roll
 pub mod Adding

@@ -45,11 +45,11 @@ module _ {V : Type 0} (effect : Effect) (sound : Call → Type 0) (runs : V → 
   departed fed limit journal started segments old new worker thread (Some vt) None s sound_core free ready d =
       let same : started ≡ started + 0 = omega arith in
       subst (λ n. Took fed limit (journal ++ Take worker thread ∷ []) n (segments + 1) worker thread (Some vt) None new) same
-      (resumed effect sound runs fed limit journal started segments old new worker thread vt s free d.place d.leaves d.resting d.mail)
+      (resumed effect sound runs fed limit journal started segments old new worker thread vt s free d.place d.leaves d.resting d.mail d.roll)
   departed fed limit journal started segments old new worker thread None (Some call) s sound_core free ready d =
-      begins_call effect sound runs fed limit journal started segments old new worker thread None call s sound_core free (few_ready s.c old limit thread.n None s.hall_stands d.place ready) d.place d.leaves d.resting d.mail
+      begins_call effect sound runs fed limit journal started segments old new worker thread None call s sound_core free (few_ready s.c old limit thread.n None s.hall_stands d.place ready) d.place d.leaves d.resting d.mail d.roll
   departed fed limit journal started segments old new worker thread (Some vt) (Some call) s sound_core free ready d =
-      begins_call effect sound runs fed limit journal started segments old new worker thread (Some vt) call s sound_core free (few_ready s.c old limit thread.n (Some vt) s.hall_stands d.place ready) d.place d.leaves d.resting d.mail
+      begins_call effect sound runs fed limit journal started segments old new worker thread (Some vt) call s sound_core free (few_ready s.c old limit thread.n (Some vt) s.hall_stands d.place ready) d.place d.leaves d.resting d.mail d.roll
 
   -- a worker took a thread, by what each part of the pool is then
   pub took : (fed : List Call) (limit : ℕ) (journal events : List Event) (started begun segments : ℕ) (old new : Hall V) (worker : ℕ) (thread : ThreadId) (vt : Option V) (next : Option Call) →

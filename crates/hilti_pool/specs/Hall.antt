@@ -18,6 +18,7 @@ use Rattle.hilti_pool.specs.declared.seat.Place.TheVariants.{Fresh, Idle, Suspen
 use Rattle.hilti_pool.specs.declared.seat.Posted.{Posted}
 use Rattle.hilti_pool.specs.declared.seat.Away.{Away}
 use Rattle.hilti_pool.specs.declared.hall.Hall.{Hall}
+use Rattle.hilti_pool.specs.Roll.{Enrols}
 
 -- the calls that these items send, in order
 abbrev pub posted_by : List Item → List Posted
@@ -105,6 +106,7 @@ module _ {V : Type 0} where
     pub mail : deque_len hall.mail + length items ≤ deque_capacity hall.mail
     pub resting : vec_len hall.resting + 1 ≤ vec_capacity hall.resting
     pub outs : vec_len hall.outs + 1 ≤ vec_capacity hall.outs
+    pub roll : vec_len hall.roll + 1 ≤ vec_capacity hall.roll
     pub seats : All (HasSeat hall) (receivers items)
     pub logs : All (λ away. HasLogRoom (length items) hall away.thread.n) hall.outs.items
 
@@ -122,6 +124,9 @@ module _ {V : Type 0} where
     pub outs : new.outs.items ≡ old.outs.items
     pub outs_len : vec_len new.outs ≡ vec_len old.outs
     pub outs_room : vec_capacity old.outs ≤ vec_capacity new.outs
+    pub roll : new.roll.items ≡ old.roll.items
+    pub roll_len : vec_len new.roll ≡ vec_len old.roll
+    pub roll_room : vec_capacity old.roll ≤ vec_capacity new.roll
 
   -- the thread's face when a worker took it, with so many calls more
   abbrev pub gone : ℕ → ℕ → Face V → Face V
@@ -147,6 +152,7 @@ module _ {V : Type 0} where
     pub mail : new.mail.items ≡ old.mail.items ++ posted_by items
     pub resting : new.resting ≡ old.resting
     pub outs : new.outs.items ≡ filter (λ away. not (away.worker == worker)) old.outs.items
+    pub roll : new.roll ≡ old.roll
 
   -- the thread of this place isn't out
   abbrev pub IsAtHome : Place V → Type 0
@@ -203,6 +209,7 @@ module _ {V : Type 0} where
     pub leaves : Leaves worker thread 0 old new
     pub resting : Wakes thread.n old.resting.items new.resting.items
     pub mail : new.mail.items ≡ old.mail.items
+    pub roll : new.roll.items ≡ old.roll.items
 
   -- the worker has the thread, which begins the first call that waited for it
   pub record SetsOut (worker : ℕ) (thread : ThreadId) (vt : Option V) (call : Call)
@@ -211,11 +218,18 @@ module _ {V : Type 0} where
     pub leaves : Leaves worker thread 1 old new
     pub resting : new.resting.items ≡ old.resting.items
     pub mail : TakesFirst thread.n call old.mail.items new.mail.items
+    pub roll : Enrols thread.n old.roll.items new.roll.items
 
   -- one of both, by whether a call begins
   abbrev pub Departs : ℕ → ThreadId → Option V → Option Call → Hall V → Hall V → Type 0
   Departs worker thread vt None old new = GoesOut worker thread vt old new
   Departs worker thread vt (Some call) old new = SetsOut worker thread vt call old new
+
+  -- the thread at a place of those that ran, how many calls it started, and its lines
+  pub record IsLogOf (hall : Hall V) (place thread calls : ℕ) (lines : List Text) : Type 0 where
+    pub at : slice_get hall.roll.items place ≡ Some thread
+    pub calls_are : calls ≡ (face hall thread).calls
+    pub lines_are : lines ≡ (face hall thread).log
 
   -- where one worker runs all: a thread at rest of least number, else that of the first call that
   -- waits

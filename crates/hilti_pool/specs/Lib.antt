@@ -7,3 +7,4 @@ pub mod Hall
 pub mod Stands
 pub mod ComingHome
 pub mod Entries
+pub mod Roll

@@ -6,4 +6,4 @@ returns-clause-room g c =
     let made = c.in_ok-reserve_places.ensures in
     let settled = c.in_ok-settle_receivers.ensures in
     let logs = c.in_ok-reserve_logs.ensures in
-    room_made c.args.items.now c.len-count.result c.reserve_places.new.self c.settle_receivers.new.self c.reserve_logs.new.self c.len-count.ensures made.mail made.resting made.outs settled.grows settled.seats logs.grows logs.logs
+    room_made c.args.items.now c.len-count.result c.reserve_places.new.self c.settle_receivers.new.self c.reserve_logs.new.self c.len-count.ensures made.mail made.resting made.outs made.roll settled.grows settled.seats logs.grows logs.logs

@@ -28,7 +28,7 @@ invariant_of-self-2 g c =
     let d = c.in_default.ensures in
     let is_sound : g.B.Body.sound about c.args.call = subst (λ p. g.B.Body.sound p.about c.args.call) (sym c.self.view_is) c.requires in (
       fed_on (g.B.Body.effect about) (g.B.Body.sound about) (g.B.Body.runs about) old.fed new.fed old.limit old.journal.items new.journal.items c.note.new.journal.items old.started old.segments
-          old.hall new.hall c.post.new.self c.args.call c.self.invariant.0 is_sound d.ok d.journal c.note.ensures d.grows d.seat c.post.ensures.seats c.post.ensures.resting c.post.ensures.outs c.post.ensures.mail,
+          old.hall new.hall c.post.new.self c.args.call c.self.invariant.0 is_sound d.ok d.journal c.note.ensures d.grows d.seat c.post.ensures.seats c.post.ensures.resting c.post.ensures.outs c.post.ensures.roll c.post.ensures.mail,
       tt,
       subst (λ f. AreEntries f c.note.new.journal.items old.ended) (sym d.ok) (subst (λ l. AreEntries (old.fed ++ c.args.call ∷ []) l old.ended) (sym (c.note.ensures ∙ ap (λ l. l ++ events.Feed ∷ []) d.journal))
           (fed_entries old.fed old.journal.items old.ended c.self.invariant.2 c.args.call)),
