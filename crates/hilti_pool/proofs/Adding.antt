@@ -1,5 +1,5 @@
 -- What each event adds to the entries.
-use Rattle.std.proofs.Common.{◌≡◌, ℕ, ◌+◌, ◌≤◌, zero, suc, List, [], ◌∷◌, ◌++◌, length, map, take, drop, Option, Some, None, IfSome, MatchOption, refl, ap, sym, ◌∙◌, subst, arith, length-append, append_assoc}
+use Rattle.std.proofs.Common.{◌≡◌, ℕ, ◌+◌, ◌≤◌, suc, List, [], ◌∷◌, ◌++◌, length, map, take, drop, Option, Some, None, IfSome, MatchOption, refl, ap, sym, ◌∙◌, subst, arith, length-append, append_assoc}
 use Rattle.std.proofs.lemmas.List.{take-append-le, drop-append-le, take_all, drop_all, length_push, length-take, length-drop}
 use Rattle.hilti_base.specs.declared.names.ThreadId.{ThreadId}
 use Rattle.hilti_tree.specs.declared.call.Call.{Call}
@@ -122,5 +122,5 @@ pub end_tells : {D : Type 0} (pool shown : PoolState D) (n : ℕ) → pool ≡ s
 end_tells pool shown n is h on long =
     let ended = entries_from pool.fed pool.journal in
     let adds : with_end (Some n) ended ≡ entries_of shown ++ FeedEnd ∷ [] =
-        ap (λ k. with_end (Some k) ended) long ∙ end_adds pool.fed pool.journal h.feeds ∙ ap (λ o. with_end o ended ++ FeedEnd ∷ []) (sym on) ∙ ap (λ p. entries_of p ++ FeedEnd ∷ []) is in
+    ap (λ k. with_end (Some k) ended) long ∙ end_adds pool.fed pool.journal h.feeds ∙ ap (λ o. with_end o ended ++ FeedEnd ∷ []) (sym on) ∙ ap (λ p. entries_of p ++ FeedEnd ∷ []) is in
     subst (λ o. MatchOption o (with_end (Some n) ended ≡ entries_of shown ++ FeedEnd ∷ []) (λ _. with_end (Some n) ended ≡ entries_of shown)) (sym (ap (λ p. p.ended) (sym is) ∙ on)) adds

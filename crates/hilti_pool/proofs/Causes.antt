@@ -1,13 +1,13 @@
 -- What the seats and the mail say of the core: which threads are ready, out or awaited.
-use Rattle.std.proofs.Common.{◌≡◌, ℕ, ◌+◌, ◌<◌, ◌≤◌, ◌⊎◌, ◌↔◌, inl, inr, zero, suc, Bool, true, false, cond, List, [], ◌∷◌, length, map, Option, Some, None, IsSome, IfSome, IsSomeAnd, option_map, refl, ap, sym, ◌∙◌, subst, arith, eqb, All, Contains}
-use Rattle.std.proofs.lemmas.Bool.{eqb-true, eqb-false, eq-eqb}
+use Rattle.std.proofs.Common.{◌≡◌, ℕ, ◌<◌, ◌≤◌, ◌⊎◌, ◌↔◌, inl, inr, suc, Bool, true, false, cond, List, [], ◌∷◌, length, map, Option, Some, None, refl, ap, sym, ◌∙◌, subst, arith, eqb, All, Contains}
+use Rattle.std.proofs.lemmas.Bool.{eqb-true, eqb-false}
 use Rattle.std.proofs.lemmas.List.Elements.{All-nil, All-cons, All-head, All-tail, All-weaker, All-contains, Contains-push, Contains-append_left, Contains-append_cases}
 use Rattle.hilti_base.specs.declared.names.ThreadId.{ThreadId}
 use Rattle.hilti_tree.specs.declared.call.Call.{Call}
 use Rattle.hilti_core.specs.declared.event.Event.{Event}
 use Rattle.hilti_core.specs.Sending.{Effect}
 use Rattle.hilti_core.specs.Body.{Runs, HasSegments}
-use Rattle.hilti_core.specs.Core.{Waiting, Running, Resident, Core}
+use Rattle.hilti_core.specs.Core.{Running, Resident, Core}
 use Rattle.hilti_core.specs.Kept.{IsKept, IsSoundCore}
 use Rattle.hilti_core.proofs.Kept.{keeps_core}
 use Rattle.hilti_pool.specs.declared.seat.Away.{Away}
@@ -17,9 +17,8 @@ use Rattle.hilti_pool.specs.declared.seat.Posted.{Posted}
 use Rattle.hilti_pool.specs.declared.hall.Hall.{Hall}
 use Rattle.hilti_pool.specs.State.{PoolState, core_of, InCore}
 use Rattle.hilti_pool.specs.Readiness.{IsHome, IsSuspended, HasMail, IsReady, NoneReady, SomeOut, NoneOut, SomeMail, NoMail, HasWaiting}
-use Rattle.hilti_pool.specs.Hall.{Face, face, HasSeat, IsFor, NoneFor, IsResting, IsAtHome, CanBegin, CanGo, NoneAtHome, IsAwaited, MayGo, NoneMayGo}
-use Rattle.hilti_pool.specs.Stands.{Delivery, posted_of, inbox_in, MailStands, PlaceStands, SeatStands, HallStands, StandsFor}
-use Rattle.hilti_pool.specs.Threads.{calls_of}
+use Rattle.hilti_pool.specs.Hall.{face, HasSeat, IsFor, NoneFor, IsResting, IsAtHome, CanBegin, CanGo, MayGo, NoneMayGo}
+use Rattle.hilti_pool.specs.Stands.{Delivery, posted_of, inbox_in, PlaceStands, HallStands, StandsFor}
 use Rattle.hilti_pool.proofs.Seats.{calls_of-within, only_one}
 use Rattle.hilti_pool.proofs.Mail.{nothing_for}
 use Rattle.hilti_pool.proofs.Homecoming.{was_out, some_same}

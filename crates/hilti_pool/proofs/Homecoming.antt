@@ -1,6 +1,6 @@
 -- What a pool keeps is kept when a worker puts a thread back.
-use Rattle.std.proofs.Common.{◌≡◌, ℕ, ◌+◌, ◌<◌, ◌≤◌, ◌≢◌, ◌⊎◌, inl, inr, ◌↔◌, zero, suc, Bool, true, false, cond, List, [], ◌∷◌, ◌++◌, length, map, drop, Option, Some, None, Contains, refl, ap, sym, ◌∙◌, subst, arith, eqb, not, filter, All}
-use Rattle.std.proofs.lemmas.Bool.{eqb-true, eqb-false, eq-eqb}
+use Rattle.std.proofs.Common.{◌≡◌, ℕ, ◌≤◌, ◌⊎◌, inl, inr, ◌↔◌, zero, suc, Bool, true, false, cond, List, [], ◌∷◌, ◌++◌, length, drop, Option, Some, None, Contains, refl, ap, sym, ◌∙◌, subst, arith, eqb, not, filter, All}
+use Rattle.std.proofs.lemmas.Bool.{eqb-true, eqb-false}
 use Rattle.std.proofs.lemmas.List.{length_push}
 use Rattle.std.proofs.lemmas.List.Elements.{All-weaker, All-append, All-nil, All-cons, All-head, All-tail, Contains-push, Contains-push_cases, Contains-append_left}
 use Rattle.hilti_base.specs.declared.names.ThreadId.{ThreadId}
@@ -15,14 +15,13 @@ use Rattle.hilti_core.specs.declared.event.Event.TheVariants.{Put}
 use Rattle.hilti_core.specs.Sending.{Effect, Sender.Thread, Text, letters, lines, put_at}
 use Rattle.hilti_core.specs.Atomic.{started_calls}
 use Rattle.hilti_core.specs.Body.{Runs, EndsOnce, IsEffect, HasSegments}
-use Rattle.hilti_core.specs.Core.{Running, Resident, Core, core, core_of_none, left_of, left, after_segment, finished_after, running_after, comes_home}
+use Rattle.hilti_core.specs.Core.{Running, Resident, Core, core_of_none, left_of, after_segment, finished_after, running_after, comes_home}
 use Rattle.hilti_core.specs.Kept.{IsKept, IsSoundCore}
 use Rattle.hilti_core.proofs.Lists.{put_both}
 use Rattle.hilti_pool.specs.declared.seat.Place.{Place}
 use Rattle.hilti_pool.specs.declared.seat.Place.TheVariants.{Fresh, Idle, Suspended, Out}
-use Rattle.hilti_pool.specs.declared.seat.Posted.{Posted}
 use Rattle.hilti_pool.specs.declared.hall.Hall.{Hall}
-use Rattle.hilti_pool.specs.Hall.{Face, face, back_home, HasSeat, receivers, posted_by, IsResting, IsAtHome}
+use Rattle.hilti_pool.specs.Hall.{face, back_home, HasSeat, receivers, posted_by, IsResting, IsAtHome}
 use Rattle.hilti_pool.specs.Hall.{ComesBack}
 use Rattle.hilti_pool.specs.ComingHome.{ComesToRest}
 use Rattle.hilti_pool.specs.Work.{IsDone}

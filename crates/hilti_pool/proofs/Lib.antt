@@ -10,3 +10,4 @@ pub mod Telling
 pub mod Taking
 pub mod Roll
 pub mod Adding
+pub mod Working

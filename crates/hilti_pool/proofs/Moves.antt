@@ -1,6 +1,6 @@
 -- What a pool keeps is kept by each event.
-use Rattle.std.proofs.Common.{◌≡◌, ℕ, ◌+◌, ◌<◌, ◌≤◌, ◌≢◌, ◌↔◌, zero, suc, Bool, true, false, cond, List, [], ◌∷◌, ◌++◌, length, map, drop, Option, Some, None, MatchOption, IsSome, Contains, refl, ap, sym, ◌∙◌, subst, arith, eqb, All, length-append}
-use Rattle.std.proofs.lemmas.Bool.{eqb-true, eqb-false, eq-eqb}
+use Rattle.std.proofs.Common.{◌≡◌, ℕ, ◌+◌, ◌<◌, ◌≤◌, ◌↔◌, zero, suc, Bool, true, false, cond, List, [], ◌∷◌, ◌++◌, length, Option, Some, None, MatchOption, IsSome, Contains, refl, ap, sym, ◌∙◌, subst, arith, eqb, All}
+use Rattle.std.proofs.lemmas.Bool.{eqb-true}
 use Rattle.std.proofs.lemmas.List.{length_push}
 use Rattle.std.proofs.lemmas.List.Elements.{All-nil, All-contains, All-weaker, All-push, All-head}
 use Rattle.std.specs.Ordering.{nat_cmp}
@@ -8,23 +8,22 @@ use Rattle.std.specs.BTreeMap.{get}
 use Rattle.hilti_base.specs.declared.names.ThreadId.{ThreadId}
 use Rattle.hilti_tree.specs.declared.call.Call.{Call}
 use Rattle.hilti_core.specs.declared.event.Event.{Event}
-use Rattle.hilti_core.specs.declared.event.Event.TheVariants.{Feed, Take, Put}
-use Rattle.hilti_core.specs.Sending.{Effect, Sender.Capture, Letter, put_at}
+use Rattle.hilti_core.specs.declared.event.Event.TheVariants.{Feed, Take}
+use Rattle.hilti_core.specs.Sending.{Effect, Sender.Capture}
 use Rattle.hilti_core.specs.Machine.{Start}
 use Rattle.hilti_core.specs.Atomic.{started_calls}
 use Rattle.hilti_core.specs.Body.{Runs}
-use Rattle.hilti_core.specs.Core.{Waiting, Running, Resident, Core, fresh, core, core_of_none, play, begins, goes_on}
-use Rattle.hilti_core.specs.Kept.{IsKept, IsSoundCore}
+use Rattle.hilti_core.specs.Core.{Running, Resident, fresh, core_of_none, begins, goes_on}
+use Rattle.hilti_core.specs.Kept.{IsSoundCore}
 use Rattle.hilti_core.proofs.Lists.{put_both}
 use Rattle.hilti_core.proofs.Moves.{fed_core}
 use Rattle.hilti_core.proofs.Kept.{takes_more}
 use Rattle.hilti_pool.specs.declared.seat.Place.{Place}
 use Rattle.hilti_pool.specs.declared.seat.Place.TheVariants.{Fresh, Idle, Suspended, Out}
-use Rattle.hilti_pool.specs.declared.seat.Posted.{Posted}
 use Rattle.hilti_pool.specs.declared.hall.Hall.{Hall}
 use Rattle.hilti_pool.specs.Hall.{Face, face, face_of, seat_at, gone, HasSeat, Grows, Leaves, Wakes, TakesFirst, IsResting, IsAtHome, WasIdle}
 use Rattle.hilti_pool.specs.Work.{HasWork, IsJob}
-use Rattle.hilti_pool.specs.Stands.{Delivery, MailStands, PlaceStands, SeatStands, HallStands, StandsFor}
+use Rattle.hilti_pool.specs.Stands.{MailStands, PlaceStands, SeatStands, HallStands, StandsFor}
 use Rattle.hilti_pool.specs.Threads.{calls_of}
 use Rattle.hilti_pool.specs.Roll.{IsRoll, Enrols}
 use Rattle.hilti_pool.proofs.Roll.{roll_starts, roll_nothing}

@@ -4,7 +4,7 @@ use Rattle.std.proofs.lemmas.List.Elements.{All-weaker}
 use Rattle.std.specs.VecDeque.{deque_len, deque_capacity}
 use Rattle.hilti_core.specs.declared.pieces.Item.{Item}
 use Rattle.hilti_pool.specs.declared.hall.Hall.{Hall}
-use Rattle.hilti_pool.specs.Hall.{face, HasSeat, HasLogRoom, HasRoom, Grows, receivers}
+use Rattle.hilti_pool.specs.Hall.{HasSeat, HasLogRoom, HasRoom, Grows, receivers}
 
 module _ {V : Type 0} where
   pub grows_same : (a : Hall V) → Grows a a

@@ -1,5 +1,5 @@
 -- What a pool keeps is kept when a worker takes a thread, whether that goes on or begins a call; and why an answer comes.
-use Rattle.std.proofs.Common.{◌≡◌, ℕ, ◌+◌, ◌<◌, ◌≤◌, ◌⊎◌, ◌↔◌, inl, inr, Bool, true, false, List, [], ◌∷◌, ◌++◌, length, Option, Some, None, IsSome, is_some, refl, ap, sym, ◌∙◌, subst, arith}
+use Rattle.std.proofs.Common.{◌≡◌, ℕ, ◌+◌, ◌<◌, ◌↔◌, inl, inr, Bool, true, false, List, [], ◌∷◌, ◌++◌, length, Option, Some, None, IsSome, is_some, refl, sym, subst, arith}
 use Rattle.std.proofs.lemmas.Bool.Decides.{nat_tests}
 use Rattle.std.specs.Prelude.{nat_lt}
 use Rattle.hilti_base.specs.declared.names.ThreadId.{ThreadId}
@@ -11,9 +11,8 @@ use Rattle.hilti_core.specs.Body.{Runs}
 use Rattle.hilti_core.specs.Core.{Core}
 use Rattle.hilti_core.specs.Kept.{IsKept, IsSoundCore}
 use Rattle.hilti_pool.specs.declared.hall.Hall.{Hall}
-use Rattle.hilti_pool.specs.declared.seat.Place.{Place}
-use Rattle.hilti_pool.specs.Hall.{face, count_begun, IsResting, WasIdle, GoesOut, SetsOut, Departs, NoneMayGo}
-use Rattle.hilti_pool.specs.Readiness.{IsReady, NoneReady}
+use Rattle.hilti_pool.specs.Hall.{face, count_begun, WasIdle, Departs, NoneMayGo}
+use Rattle.hilti_pool.specs.Readiness.{IsReady}
 use Rattle.hilti_pool.specs.Work.{IsJob}
 use Rattle.hilti_pool.specs.Taking.{IsIdle, IsAtLimit, IsFinished}
 use Rattle.hilti_pool.specs.Stands.{HallStands, StandsFor}

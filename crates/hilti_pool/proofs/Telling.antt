@@ -1,5 +1,5 @@
 -- What a pool tells of its core.
-use Rattle.std.proofs.Common.{◌≡◌, ℕ, ◌+◌, ◌<◌, ◌≤◌, ◌⊎◌, inl, inr, ◌↔◌, Bool, true, false, cond, List, [], ◌∷◌, length, map, Option, Some, None, MatchOption, option_map, refl, ap, sym, ◌∙◌, subst, arith, eqb, All, Contains}
+use Rattle.std.proofs.Common.{◌≡◌, ℕ, ◌≤◌, inl, inr, Bool, true, false, cond, List, [], ◌∷◌, length, map, Option, Some, None, MatchOption, option_map, refl, ap, sym, ◌∙◌, subst, arith, eqb, All, Contains}
 use Rattle.std.proofs.lemmas.Bool.{eq-eqb}
 use Rattle.std.proofs.lemmas.List.Elements.{All-nil, All-cons, All-head, All-tail, All-contains}
 use Rattle.hilti_base.specs.declared.names.ThreadId.{ThreadId}
@@ -7,15 +7,12 @@ use Rattle.hilti_tree.specs.declared.call.Call.{Call}
 use Rattle.hilti_core.specs.Body.{Runs}
 use Rattle.hilti_core.specs.Core.{Waiting, Core}
 use Rattle.hilti_core.specs.Kept.{IsKept}
-use Rattle.hilti_pool.specs.declared.seat.Away.{Away}
-use Rattle.hilti_pool.specs.declared.seat.Place.{Place}
-use Rattle.hilti_pool.specs.declared.seat.Place.TheVariants.{Out}
 use Rattle.hilti_pool.specs.declared.seat.Posted.{Posted}
 use Rattle.hilti_pool.specs.declared.hall.Hall.{Hall}
 use Rattle.hilti_pool.specs.Readiness.{NoneSuspended, IsFirst, IsFirstPosted}
 use Rattle.hilti_core.specs.Sending.{Text}
 use Rattle.hilti_pool.specs.Roll.{IsLogAt, EndsBy}
-use Rattle.hilti_pool.specs.Hall.{face, HasNothing, HasThread, ComesFirst, IsLogOf}
+use Rattle.hilti_pool.specs.Hall.{HasNothing, HasThread, ComesFirst, IsLogOf}
 use Rattle.hilti_pool.specs.Stands.{Delivery, posted_of, inbox_in, AreInOrder, PlaceStands, HallStands}
 use Rattle.hilti_pool.proofs.Homecoming.{was_out}
 use Rattle.hilti_pool.proofs.Causes.{in_nothing, rests_in, suspended_in, no_mail}

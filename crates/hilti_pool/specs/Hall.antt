@@ -1,6 +1,6 @@
 -- What the calls of a hall read and change: each thread's seat, by its number, and the room for
 -- more.
-use Rattle.std.specs.Prelude.{ℕ, ◌+◌, ◌<◌, ◌≤◌, ◌≢◌, ◌==◌, Bool, true, false, not, filter, List, []}
+use Rattle.std.specs.Prelude.{ℕ, ◌+◌, ◌<◌, ◌≤◌, ◌≢◌, ◌==◌, Bool, true, not, filter, List, []}
 use Rattle.std.specs.Prelude.{◌∷◌, ◌++◌, length, take, slice_get, Option, Some, None, ◌≡◌, ◌↔◌, ◌⊎◌}
 use Rattle.std.specs.Prelude.{IsSome, IsSomeAnd, vec_len, vec_capacity}
 use Rattle.std.specs.List.{All, Contains}

@@ -1,11 +1,11 @@
 -- What a pool keeps, against the core that it stands for.
-use Rattle.std.specs.Prelude.{ℕ, ◌+◌, ◌==◌, ◌<◌, ◌≤◌, cond, List, [], ◌∷◌, ◌++◌, length, map}
-use Rattle.std.specs.Prelude.{filter, Option, Some, None, ◌≡◌, ◌↔◌}
+use Rattle.std.specs.Prelude.{ℕ, ◌+◌, ◌==◌, ◌<◌, ◌≤◌, cond, List, [], ◌∷◌, length, map}
+use Rattle.std.specs.Prelude.{Some, None, ◌≡◌, ◌↔◌}
 use Rattle.std.specs.List.{All, Contains}
 use Rattle.hilti_base.specs.declared.names.ThreadId.{ThreadId}
 use Rattle.hilti_tree.specs.declared.call.Call.{Call}
 use Rattle.hilti_core.specs.declared.event.Event.{Event}
-use Rattle.hilti_core.specs.Sending.{Text, Letter, Sender, Message, Effect}
+use Rattle.hilti_core.specs.Sending.{Effect}
 use Rattle.hilti_core.specs.Machine.{Start}
 use Rattle.hilti_core.specs.Core.{Waiting, Running, Resident, Core, core}
 use Rattle.hilti_core.specs.Atomic.{started_calls}

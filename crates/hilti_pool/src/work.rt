@@ -7,11 +7,12 @@ use crate::pool::{Pool, note};
 use hilti_base::{NoMemory, ThreadId};
 use hilti_core::{Body, Event, Items, Segment};
 use hilti_tree::Call;
+use std::alloc::Global;
 use std::snapshot::Snapshot;
 
 impl<B: Body> Pool<B> {
     ghost use Rattle.std.specs.Prelude.{◌≡◌, ◌↔◌, None, Some, true, false, IsSome, IsTrue, OnOk, OnErr};
-    ghost use Rattle.std.specs.Prelude.{[], ◌∷◌, ◌++◌};
+    ghost use Rattle.std.specs.Prelude.{[], ◌∷◌, ◌++◌, ◌⊎◌};
     ghost use Rattle.hilti_pool.specs.State.{InCore, after_take, after_put};
     ghost use Rattle.hilti_pool.specs.Entries.{entries_of};
     ghost use Rattle.hilti_pool.specs.Readiness.{IsReady};
@@ -103,6 +104,32 @@ impl<B: Body> Pool<B> {
         self.hall.give_back(worker, thread, vt, items, end);
         note(&mut self.journal, Event::Put { worker });
         self.room = None;
+    }
+
+    /// A worker that has no thread takes one that is ready, runs one segment of it by the pool's body, and gives it
+    /// back. Without memory nothing changes, or the thread stays out at the worker.
+    pub fn advance(
+        &mut self,
+        alloc: Global,
+        body: &B,
+        worker: u32,
+        thread: ThreadId,
+    ) -> Result<(), NoMemory>
+        requires about { self.old.about ≡ B.facts body.now }
+        requires goes_on { self.old.given_up ≡ false }
+        requires free { InCore B.effect self.old (λ c. c.out worker ≡ None) }
+        requires ready { InCore B.effect self.old (λ c. IsReady self.old.limit c thread.n) }
+        ensures ok { OnOk result
+            (self.new ≡ after_put worker (after_take worker thread self.old)) }
+        ensures err { OnErr result ((self.new ≡ self.old)
+            ⊎ (self.new ≡ after_take worker thread self.old)) }
+    {
+        self.make_room(&Items::new(alloc))?;
+        let job = self.take_thread(worker, thread);
+        let (vt, segment) = job.run(alloc, body)?;
+        self.make_room(&segment.items)?;
+        self.put(worker, thread, vt, segment);
+        Ok(())
     }
 }
 

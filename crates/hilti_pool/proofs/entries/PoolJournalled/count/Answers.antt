@@ -1,4 +1,4 @@
-use Rattle.std.proofs.Common.{◌∙◌, ◌+◌, length, arith, ap, sym, vec_len}
+use Rattle.std.proofs.Common.{◌∙◌, length, arith, ap}
 use Rattle.hilti_pool.specs.Entries.{entries_of}
 use Rattle.hilti_pool.proofs.Adding.{count_going, count_ended}
 use Rattle.hilti_pool.proofs.entries.PoolJournalled.count.Goals as goal

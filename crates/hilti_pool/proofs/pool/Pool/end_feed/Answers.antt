@@ -1,4 +1,4 @@
-use Rattle.std.proofs.Common.{◌∙◌, ◌+◌, length, arith, ap, sym, vec_len}
+use Rattle.std.proofs.Common.{arith}
 use Rattle.hilti_pool.proofs.Taking.{none_if}
 use Rattle.hilti_pool.proofs.Adding.{end_tells}
 use Rattle.hilti_pool.proofs.pool.Pool.end_feed.Goals as goal

@@ -1,4 +1,4 @@
-use Rattle.std.proofs.Common.{◌<◌, ◌∙◌, ap, sym, arith, MatchOption}
+use Rattle.std.proofs.Common.{◌∙◌, ap, sym, arith}
 use Rattle.hilti_pool.specs.State.{core_of}
 use Rattle.hilti_pool.proofs.Telling.{log_told, log_ends, match_weaker}
 use Rattle.hilti_pool.proofs.pool.Pool.log.Goals as goal

@@ -2,7 +2,7 @@ use Rattle.std.proofs.Common.{refl, subst, sym, vec_len, vec_capacity}
 use Rattle.hilti_pool.specs.Hall.{HasRoom}
 use Rattle.hilti_pool.proofs.Moves.{stays}
 use Rattle.hilti_pool.proofs.Rooms.{rooms_stay}
-use Rattle.hilti_pool.specs.Entries.{AreEntries, entries_from, with_end, entries_of}
+use Rattle.hilti_pool.specs.Entries.{AreEntries}
 use Rattle.hilti_pool.proofs.pool.Pool.make_room.Goals as goal
 
 pub invariant_of-self-in_err-reserve-2 : goal.invariant_of-self-in_err-reserve-2

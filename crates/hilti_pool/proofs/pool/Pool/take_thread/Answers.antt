@@ -35,7 +35,7 @@ invariant_of-self g c =
     let free = told g.B.Body.effect (λ p x. x.out c.args.worker ≡ None) _ c.args.self.now s.c c.self.view_is s.is c.requires.free in
     let ready = told g.B.Body.effect (λ p x. IsReady p.limit x c.args.thread.n) _ c.args.self.now s.c c.self.view_is s.is c.requires.ready in
     let taken = took (g.B.Body.effect about) (g.B.Body.sound about) (g.B.Body.runs about) old.fed old.limit old.journal.items c.note.new.journal.items old.started c.begun.result old.segments
-        old.hall c.send_out-vt.new.self c.args.worker c.args.thread c.send_out-vt.result.0 c.send_out-vt.result.1 s kept.1 free ready c.send_out-vt.ensures c.note.ensures c.begun.ensures in
+    old.hall c.send_out-vt.new.self c.args.worker c.args.thread c.send_out-vt.result.0 c.send_out-vt.result.1 s kept.1 free ready c.send_out-vt.ensures c.note.ensures c.begun.ensures in
     (taken.0, tt, subst (λ l. AreEntries old.fed l old.ended) (sym c.note.ensures) (other_entries old.fed old.journal.items old.ended c.self.invariant.2 (events.Take c.args.worker c.args.thread) refl))
 
 pub returns-clause-job : goal.returns-clause-job
@@ -47,7 +47,7 @@ returns-clause-job g c =
     let free = told g.B.Body.effect (λ p x. x.out c.args.worker ≡ None) _ c.args.self.now s.c c.self.view_is s.is c.requires.free in
     let ready = told g.B.Body.effect (λ p x. IsReady p.limit x c.args.thread.n) _ c.args.self.now s.c c.self.view_is s.is c.requires.ready in
     let taken = took (g.B.Body.effect about) (g.B.Body.sound about) (g.B.Body.runs about) old.fed old.limit old.journal.items c.note.new.journal.items old.started c.begun.result old.segments
-        old.hall c.send_out-vt.new.self c.args.worker c.args.thread c.send_out-vt.result.0 c.send_out-vt.result.1 s kept.1 free ready c.send_out-vt.ensures c.note.ensures c.begun.ensures in
+    old.hall c.send_out-vt.new.self c.args.worker c.args.thread c.send_out-vt.result.0 c.send_out-vt.result.1 s kept.1 free ready c.send_out-vt.ensures c.note.ensures c.begun.ensures in
     record { core = taken.0.c; is = taken.0.is; holds = taken.1 }
 
 pub returns-clause-entries : goal.returns-clause-entries

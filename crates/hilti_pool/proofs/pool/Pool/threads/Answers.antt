@@ -1,4 +1,4 @@
-use Rattle.std.proofs.Common.{arith, vec_len}
+use Rattle.std.proofs.Common.{arith}
 use Rattle.hilti_pool.specs.Roll.{HasThreads}
 use Rattle.hilti_pool.proofs.Causes.{shows}
 use Rattle.hilti_pool.proofs.pool.Pool.threads.Goals as goal
