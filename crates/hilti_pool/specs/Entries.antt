@@ -1,5 +1,5 @@
--- What a lock sees of a pool's journal: the events, with the calls that were fed, and the end of the
--- feed in its place.
+-- What a lock sees of a pool's journal: the events, with the calls that were fed, and the end of
+-- the feed in its place.
 use Rattle.std.specs.Prelude.{ℕ, ◌≤◌, suc, List, [], ◌∷◌, ◌++◌, length, map, take, drop, Option}
 use Rattle.std.specs.Prelude.{Some, None, IfSome, ◌≡◌}
 use Rattle.hilti_tree.specs.declared.call.Call.{Call}
@@ -20,7 +20,8 @@ feeds_in (events.Put worker ∷ more) = feeds_in more
 -- the events as entries, where the feeds fed these calls
 abbrev pub entries_from : List Call → List Event → List Entry
 entries_from calls [] = []
-entries_from calls (events.Feed ∷ more) = map Feed (take 1 calls) ++ entries_from (drop 1 calls) more
+entries_from calls (events.Feed ∷ more) =
+    map Feed (take 1 calls) ++ entries_from (drop 1 calls) more
 entries_from calls (events.Take worker thread ∷ more) = Take worker thread ∷ entries_from calls more
 entries_from calls (events.Put worker ∷ more) = Put worker ∷ entries_from calls more
 

@@ -197,7 +197,7 @@ module _ {V : Type 0} where
     pub home : IsAtHome (face hall r).place
     pub waits : ¬ NoneFor r hall.mail.items
 
-  -- a thread that is suspended at home, or, where calls may start, one at home that a call waits for
+  -- the thread is suspended at home, or, where calls may start, at home, and a call waits for it
   abbrev pub CanGo : Bool → Hall V → ℕ → Type 0
   CanGo may hall r = IsResting (face hall r).place
       ⊎ ((may ≡ true) × IsAtHome (face hall r).place × ¬ NoneFor r hall.mail.items)

@@ -14,8 +14,8 @@ pub record GoesOn {V : Type 0} (runs : V → Runs) (r : ℕ) (resident : Residen
   pub busy : resident.running ≡ Some running
   pub runs_it : IsSomeAnd vt (λ vt. runs vt r resident.finished (Some running))
 
--- the virtual thread of a thread that is to start a call, which is its call in progress: it finished
--- the thread's calls, or there is none yet
+-- the virtual thread of a thread that is to start a call, which is its call in progress: it
+-- finished the thread's calls, or there is none yet
 pub record Begins {V : Type 0} (sound : Call → Type 0) (runs : V → Runs) (r : ℕ)
     (resident : Resident) (vt : Option V) (next : Call) : Type 0 where
   pub busy : resident.running ≡ Some (record { call = next; given = 0 })
