@@ -1,13 +1,13 @@
 -- What the seats and the mail say of the core: which threads are ready, out or awaited.
-use Rattle.std.proofs.Common.{◌≡◌, ℕ, ◌+◌, ◌<◌, ◌≤◌, ◌⊎◌, inl, inr, zero, suc, Bool, true, false, cond, List, [], ◌∷◌, length, map, Option, Some, None, IsSome, IfSome, IsSomeAnd, option_map, refl, ap, sym, ◌∙◌, subst, arith, eqb, All, Contains}
-use Rattle.std.proofs.lemmas.Bool.{eqb-true, eqb-false, eq-eqb}
+use Rattle.std.proofs.Common.{◌≡◌, ℕ, ◌<◌, ◌≤◌, ◌⊎◌, ◌↔◌, inl, inr, suc, Bool, true, false, cond, List, [], ◌∷◌, length, map, Option, Some, None, refl, ap, sym, ◌∙◌, subst, arith, eqb, All, Contains}
+use Rattle.std.proofs.lemmas.Bool.{eqb-true, eqb-false}
 use Rattle.std.proofs.lemmas.List.Elements.{All-nil, All-cons, All-head, All-tail, All-weaker, All-contains, Contains-push, Contains-append_left, Contains-append_cases}
 use Rattle.hilti_base.specs.declared.names.ThreadId.{ThreadId}
 use Rattle.hilti_tree.specs.declared.call.Call.{Call}
 use Rattle.hilti_core.specs.declared.event.Event.{Event}
 use Rattle.hilti_core.specs.Sending.{Effect}
 use Rattle.hilti_core.specs.Body.{Runs, HasSegments}
-use Rattle.hilti_core.specs.Core.{Waiting, Running, Resident, Core}
+use Rattle.hilti_core.specs.Core.{Running, Resident, Core}
 use Rattle.hilti_core.specs.Kept.{IsKept, IsSoundCore}
 use Rattle.hilti_core.proofs.Kept.{keeps_core}
 use Rattle.hilti_pool.specs.declared.seat.Away.{Away}
@@ -17,9 +17,8 @@ use Rattle.hilti_pool.specs.declared.seat.Posted.{Posted}
 use Rattle.hilti_pool.specs.declared.hall.Hall.{Hall}
 use Rattle.hilti_pool.specs.State.{PoolState, core_of, InCore}
 use Rattle.hilti_pool.specs.Readiness.{IsHome, IsSuspended, HasMail, IsReady, NoneReady, SomeOut, NoneOut, SomeMail, NoMail, HasWaiting}
-use Rattle.hilti_pool.specs.Hall.{Face, face, HasSeat, IsFor, NoneFor, IsResting, IsAtHome, NoneAtHome, IsAwaited, MayGo, NoneMayGo}
-use Rattle.hilti_pool.specs.Stands.{Delivery, posted_of, inbox_in, MailStands, PlaceStands, SeatStands, HallStands, StandsFor}
-use Rattle.hilti_pool.specs.Threads.{calls_of}
+use Rattle.hilti_pool.specs.Hall.{face, HasSeat, IsFor, NoneFor, IsResting, IsAtHome, CanBegin, CanGo, MayGo, NoneMayGo}
+use Rattle.hilti_pool.specs.Stands.{Delivery, posted_of, inbox_in, PlaceStands, HallStands, StandsFor}
 use Rattle.hilti_pool.proofs.Seats.{calls_of-within, only_one}
 use Rattle.hilti_pool.proofs.Mail.{nothing_for}
 use Rattle.hilti_pool.proofs.Homecoming.{was_out, some_same}
@@ -159,14 +158,6 @@ module _ {V : Type 0} where
       (s : StandsFor effect sound runs fed limit journal started segments hall) → (face hall r).calls ≤ started
   few_calls effect sound runs fed limit journal started segments hall r s = omega (arith, (s.hall_stands.seats r).calls, calls_of-within r s.c.started, s.started_are)
 
--- a thread that is ready and not suspended may begin a call
-pub record MayBegin {V : Type 0} (limit r : ℕ) (c : Core) (hall : Hall V) : Type 0 where
-  pub seat : HasSeat hall r
-  pub home : IsAtHome (face hall r).place
-  pub waits : ¬ NoneFor r hall.mail.items
-  pub few : length c.started < limit
-  pub calls : (face hall r).calls < 100000000
-
 seat_for : {V : Type 0} (hall : Hall V) (r : ℕ) (ws : List Delivery) → All (λ posted. HasSeat hall posted.to.n) (map posted_of ws) → ¬ (inbox_in r ws ≡ []) → HasSeat hall r
 seat_for hall r [] h some = absurd (some refl)
 seat_for hall r (w ∷ ws) h some = go (eqb r w.to) refl some (λ x. seat_for hall r ws (All-tail (λ posted. HasSeat hall posted.to.n) (posted_of w) (map posted_of ws) h) x)
@@ -175,22 +166,26 @@ seat_for hall r (w ∷ ws) h some = go (eqb r w.to) refl some (λ x. seat_for ha
     go true e x again = subst (HasSeat hall) (sym (eqb-true r w.to e)) (All-head (λ posted. HasSeat hall posted.to.n) (posted_of w) (map posted_of ws) h)
     go false e x again = again x
 
-pub may_begin : {V : Type 0} (effect : Effect) (sound : Call → Type 0) (runs : V → Runs) (fed : List Call) (limit : ℕ) (journal : List Event) (started segments : ℕ) (hall : Hall V) (r : ℕ) →
-    (s : StandsFor effect sound runs fed limit journal started segments hall) → IsReady limit s.c r → ¬ IsResting (face hall r).place → MayBegin limit r s.c hall
-may_begin effect sound runs fed limit journal started segments hall r s ready not = go ready
+nothing_in : (r : ℕ) (ws : List Delivery) → inbox_in r ws ≡ [] → NoneFor r (map posted_of ws)
+nothing_in r [] none = All-nil (λ posted. ¬ IsFor r posted)
+nothing_in r (w ∷ ws) none = go (eqb r w.to) refl none (λ x. nothing_in r ws x)
   where
-    h : HallStands runs s.c hall
-    h = s.hall_stands
+    go : (b : Bool) → eqb r w.to ≡ b → cond b (w.waiting ∷ inbox_in r ws) (inbox_in r ws) ≡ [] → (inbox_in r ws ≡ [] → NoneFor r (map posted_of ws)) → NoneFor r (posted_of w ∷ map posted_of ws)
+    go true e x again = absurd cc
+    go false e x again = All-cons (λ posted. ¬ IsFor r posted) (posted_of w) (map posted_of ws) (λ is. eqb-false r w.to e (sym is)) (again x)
 
-    go : IsReady limit s.c r → MayBegin limit r s.c hall
-    go (inl suspended) = absurd (not (rests_in runs s.c hall r s.hall_stands suspended))
-    go (inr m) = record {
-      seat = seat_for hall r h.mail.deliveries (subst (All (λ posted. HasSeat hall posted.to.n)) (sym h.mail.posted) h.settled) (λ none. m.1 (h.mail.inboxes r ∙ none));
-      home = at_home runs r (s.c.thread r) (face hall r).place (h.seats r).place m.0;
-      waits = λ none. m.1 (no_mail_for runs s.c hall r s.hall_stands none);
-      few = m.2;
-      calls = omega (arith, few_calls effect sound runs fed limit journal started segments hall r s, s.started_are, m.2, s.high);
-    }
+-- an inbox is empty where no mail is for its thread
+none_for : (r : ℕ) (ws : List Delivery) (mail : List Posted) → map posted_of ws ≡ mail → inbox_in r ws ≡ [] → NoneFor r mail
+none_for r ws mail is none = subst (NoneFor r) is (nothing_in r ws none)
+
+-- a thread that is ready can leave
+pub can_leave : {V : Type 0} (runs : V → Runs) (c : Core) (hall : Hall V) (limit r : ℕ) → HallStands runs c hall → IsReady limit c r → IsResting (face hall r).place ⊎ CanBegin hall r
+can_leave runs c hall limit r h (inl suspended) = inl (rests_in runs c hall r h suspended)
+can_leave runs c hall limit r h (inr m) = inr (record {
+  seat = seat_for hall r h.mail.deliveries (subst (All (λ posted. HasSeat hall posted.to.n)) (sym h.mail.posted) h.settled) (λ none. m.1 (h.mail.inboxes r ∙ none));
+  home = at_home runs r (c.thread r) (face hall r).place (h.seats r).place m.0;
+  waits = λ none. m.1 (no_mail_for runs c hall r h none);
+})
 
 length-posted : (ws : List Delivery) → length (map posted_of ws) ≡ length ws
 length-posted [] = refl
@@ -199,3 +194,18 @@ length-posted (w ∷ ws) = ap suc (length-posted ws)
 -- as many calls wait as there is mail
 pub waiting_are : {V : Type 0} (runs : V → Runs) (c : Core) (hall : Hall V) (n : ℕ) → HallStands runs c hall → n ≡ length hall.mail.items → HasWaiting c n
 waiting_are runs c hall n h is = omega (arith, h.mail.count, is, length-posted h.mail.deliveries, ap length h.mail.posted)
+
+-- a thread can go exactly where it is ready
+pub goes_ready : {V : Type 0} (runs : V → Runs) (c : Core) (hall : Hall V) (may : Bool) (limit r : ℕ) → HallStands runs c hall → (may ≡ true) ↔ (length c.started < limit) → CanGo may hall r ↔ IsReady limit c r
+goes_ready {V} runs c hall may limit r h allowed = (ready, go)
+  where
+    ready : CanGo may hall r → IsReady limit c r
+    ready (inl rests) = inl (suspended_in runs c hall r h rests)
+    ready (inr m) = inr (from_home runs r (c.thread r) (face hall r).place (h.seats r).place m.1, mail_of m.2, allowed.0 m.0)
+      where
+        mail_of : ¬ NoneFor r hall.mail.items → HasMail c r
+        mail_of some none = some (none_for r h.mail.deliveries hall.mail.items h.mail.posted (sym (h.mail.inboxes r) ∙ none))
+
+    go : IsReady limit c r → CanGo may hall r
+    go (inl suspended) = inl (rests_in runs c hall r h suspended)
+    go (inr m) = inr (allowed.1 m.2, at_home runs r (c.thread r) (face hall r).place (h.seats r).place m.0, λ none. m.1 (no_mail_for runs c hall r h none))

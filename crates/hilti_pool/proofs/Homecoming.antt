@@ -1,6 +1,6 @@
 -- What a pool keeps is kept when a worker puts a thread back.
-use Rattle.std.proofs.Common.{◌≡◌, ℕ, ◌+◌, ◌<◌, ◌≤◌, ◌≢◌, ◌⊎◌, inl, inr, ◌↔◌, zero, suc, Bool, true, false, cond, List, [], ◌∷◌, ◌++◌, length, map, drop, Option, Some, None, Contains, refl, ap, sym, ◌∙◌, subst, arith, eqb, not, filter, All}
-use Rattle.std.proofs.lemmas.Bool.{eqb-true, eqb-false, eq-eqb}
+use Rattle.std.proofs.Common.{◌≡◌, ℕ, ◌≤◌, ◌⊎◌, inl, inr, ◌↔◌, zero, suc, Bool, true, false, cond, List, [], ◌∷◌, ◌++◌, length, drop, Option, Some, None, Contains, refl, ap, sym, ◌∙◌, subst, arith, eqb, not, filter, All}
+use Rattle.std.proofs.lemmas.Bool.{eqb-true, eqb-false}
 use Rattle.std.proofs.lemmas.List.{length_push}
 use Rattle.std.proofs.lemmas.List.Elements.{All-weaker, All-append, All-nil, All-cons, All-head, All-tail, Contains-push, Contains-push_cases, Contains-append_left}
 use Rattle.hilti_base.specs.declared.names.ThreadId.{ThreadId}
@@ -8,21 +8,24 @@ use Rattle.hilti_tree.specs.declared.call.Call.{Call}
 use Rattle.hilti_core.specs.declared.pieces.Item.{Item}
 use Rattle.hilti_core.specs.declared.pieces.Item.TheVariants.{Send, Line}
 use Rattle.hilti_core.specs.declared.pieces.Segment.{Segment}
-use Rattle.hilti_core.specs.declared.pieces.End.TheVariants.{Yielded}
+use Rattle.hilti_core.specs.declared.pieces.End.TheVariants.{Yielded, Returned, Raised, OutOfFuel}
+use Rattle.hilti_core.specs.declared.pieces.End.{End}
 use Rattle.hilti_core.specs.declared.event.Event.{Event}
 use Rattle.hilti_core.specs.declared.event.Event.TheVariants.{Put}
 use Rattle.hilti_core.specs.Sending.{Effect, Sender.Thread, Text, letters, lines, put_at}
 use Rattle.hilti_core.specs.Atomic.{started_calls}
 use Rattle.hilti_core.specs.Body.{Runs, EndsOnce, IsEffect, HasSegments}
-use Rattle.hilti_core.specs.Core.{Running, Resident, Core, core, core_of_none, left_of, left, after_segment, finished_after, running_after, comes_home}
+use Rattle.hilti_core.specs.Core.{Running, Resident, Core, core_of_none, left_of, after_segment, finished_after, running_after, comes_home}
 use Rattle.hilti_core.specs.Kept.{IsKept, IsSoundCore}
 use Rattle.hilti_core.proofs.Lists.{put_both}
 use Rattle.hilti_pool.specs.declared.seat.Place.{Place}
 use Rattle.hilti_pool.specs.declared.seat.Place.TheVariants.{Fresh, Idle, Suspended, Out}
-use Rattle.hilti_pool.specs.declared.seat.Posted.{Posted}
 use Rattle.hilti_pool.specs.declared.hall.Hall.{Hall}
-use Rattle.hilti_pool.specs.Hall.{Face, face, back_home, HasSeat, receivers, posted_by, IsResting, IsAtHome}
+use Rattle.hilti_pool.specs.Hall.{face, back_home, HasSeat, receivers, posted_by, IsResting, IsAtHome}
+use Rattle.hilti_pool.specs.Hall.{ComesBack}
+use Rattle.hilti_pool.specs.ComingHome.{ComesToRest}
 use Rattle.hilti_pool.specs.Work.{IsDone}
+use Rattle.hilti_pool.specs.Roll.{IsRoll}
 use Rattle.hilti_pool.specs.Stands.{MailStands, PlaceStands, SeatStands, HallStands, StandsFor}
 use Rattle.hilti_pool.proofs.Plays.{play_push, puts}
 use Rattle.hilti_pool.proofs.Mail.{mail_posts, posted-deliveries}
@@ -47,6 +50,13 @@ ends_as segment (x ∷ rest) e = e.0
 
 pub some_same : {A : Type 0} (x y : A) → Some x ≡ Some y → x ≡ y
 some_same x y e = cc
+
+-- a segment is yielded or not
+is_yielded : (e : End) → (e ≡ Yielded) ⊎ ¬ (e ≡ Yielded)
+is_yielded Yielded = inl refl
+is_yielded Returned = inr (λ x. cc)
+is_yielded (Raised exception) = inr (λ x. cc)
+is_yielded OutOfFuel = inr (λ x. cc)
 
 module _ {V : Type 0} (effect : Effect) (sound : Call → Type 0) (runs : V → Runs) where
   -- where a worker has a thread, its place says so
@@ -117,9 +127,9 @@ module _ {V : Type 0} (effect : Effect) (sound : Call → Type 0) (runs : V → 
       PlaceStands runs thread.n (after_segment (s.c.thread thread.n) d.running segment d.rest) place → IsAtHome place →
       ((r : ℕ) → face new r ≡ put_at (face old) thread.n (back_home place (lines segment.items) (face old thread.n)) r) → ((r : ℕ) → HasSeat old r → HasSeat new r) →
       All (HasSeat old) (receivers segment.items) → new.mail.items ≡ old.mail.items ++ posted_by segment.items →
-      new.outs.items ≡ filter (λ away. not (eqb away.worker worker)) old.outs.items → RestsAre new →
+      new.outs.items ≡ filter (λ away. not (eqb away.worker worker)) old.outs.items → new.roll ≡ old.roll → RestsAre new →
       StandsFor effect sound runs fed limit (journal ++ Put worker ∷ []) started segments new
-  came_home fed limit journal started segments old new worker thread vt segment place s kept d stands home faces seats room mail outs rests = record {
+  came_home fed limit journal started segments old new worker thread vt segment place s kept d stands home faces seats room mail outs roll rests = record {
     c = comes_home worker thread.n d.running segment d.rest s.c;
     is = play_push effect limit journal (Put worker) (Some (core_of_none fed)) s.c s.is ∙ puts effect limit worker thread.n s.c d.running segment d.rest d.out d.busy d.next;
     unfed = s.unfed;
@@ -148,6 +158,7 @@ module _ {V : Type 0} (effect : Effect) (sound : Call → Type 0) (runs : V → 
       outs = outs_back old new worker thread place home (λ r. ap (λ x. x.place) (faces r) ∙ split r (eqb r thread.n)) (outs_by worker old.outs.items new.outs.items outs)
           (λ t is. some_same t.n thread.n (sym (kept.seats.sits t.n worker (subst (PlaceStands runs t.n (s.c.thread t.n)) is (h.seats t.n).place).0) ∙ d.out))
           (was_out fed limit worker thread.n s.c old h kept d.out) h.outs;
+      roll = subst (IsRoll s.c.started) (sym (ap (λ v. v.items) roll)) h.roll;
     };
   }
     where
@@ -166,3 +177,27 @@ module _ {V : Type 0} (effect : Effect) (sound : Call → Type 0) (runs : V → 
       split : (r : ℕ) (b : Bool) → (cond b (back_home place (lines segment.items) (face old thread.n)) (face old r)).place ≡ cond b place (face old r).place
       split r true = refl
       split r false = refl
+
+  -- a worker put its thread back, by what each part of the pool is then
+  pub put_back : (fed : List Call) (limit : ℕ) (journal events : List Event) (started segments : ℕ) (old new : Hall V) (worker : ℕ) (thread : ThreadId) (vt : V) (segment : Segment) →
+      (s : StandsFor effect sound runs fed limit journal started segments old) → IsKept fed limit s.c → IsSoundCore sound s.c → HasSegments effect sound → IsDone effect runs worker thread.n vt segment s.c →
+      All (HasSeat old) (receivers segment.items) → (segment.end ≡ Yielded → ComesToRest worker thread vt segment.items (lines segment.items) old new) →
+      (¬ (segment.end ≡ Yielded) → ComesBack worker thread (Idle vt) segment.items (lines segment.items) old new) → events ≡ journal ++ Put worker ∷ [] → StandsFor effect sound runs fed limit events started segments new
+  put_back fed limit journal events started segments old new worker thread vt segment s kept sound_core has d settled yielded ended noted =
+      subst (λ x. StandsFor effect sound runs fed limit x started segments new) (sym noted) (by_end (is_yielded segment.end))
+    where
+      e : EndsAs segment d.rest
+      e = how_it_ends has s.c sound_core worker thread.n vt segment d
+
+      by_end : (segment.end ≡ Yielded) ⊎ ¬ (segment.end ≡ Yielded) → StandsFor effect sound runs fed limit (journal ++ Put worker ∷ []) started segments new
+      by_end (inl is) =
+          let b = yielded is in
+          came_home fed limit journal started segments old new worker thread vt segment (Suspended vt) s kept d
+          (suspended_after thread.n (s.c.thread thread.n) d.running segment d.rest vt e is d.runs_it) tt b.faces b.seats settled b.mail b.outs b.roll
+          (rests_suspended old new thread.n vt (lines segment.items) b.faces b.resting s.hall_stands.resting)
+      by_end (inr not_so) =
+          let b = ended not_so in
+          came_home fed limit journal started segments old new worker thread vt segment (Idle vt) s kept d
+          (idle_after thread.n (s.c.thread thread.n) d.running segment d.rest vt e not_so d.runs_it) tt b.faces b.seats settled b.mail b.outs b.roll
+          (rests_idle old new thread.n (Idle vt) (lines segment.items) (λ x. x)
+          (λ x. subst IsResting (was_out fed limit worker thread.n s.c old s.hall_stands kept d.out) x) b.faces (ap (λ v. v.items) b.resting) s.hall_stands.resting)

@@ -1,17 +1,16 @@
 -- What holds of the elements so far holds with one element more.
-use Rattle.std.proofs.Common.{◌≡◌, ℕ, ◌+◌, ◌<◌, ◌≤◌, suc, List, [], ◌∷◌, ◌++◌, length, take, drop, slice_get, slice_index_or, Some, IsSomeAnd, refl, ap, sym, ◌∙◌, subst, All, Contains}
+use Rattle.std.proofs.Common.{◌≡◌, ℕ, ◌+◌, ◌<◌, ◌≤◌, suc, List, [], ◌∷◌, ◌++◌, length, take, drop, slice_get, slice_index_or, Some, IsSomeAnd, refl, ap, sym, ◌∙◌, subst, All}
 use Rattle.std.specs.List.{remove}
 use Rattle.std.proofs.Math.Seq.{drop-cons}
 use Rattle.std.proofs.lemmas.Option.{slice_get_read}
 use Rattle.std.proofs.lemmas.List.{take_more, take_all, take-append-drop}
 use Rattle.std.proofs.lemmas.List.Elements.{All-append, All-push, All-weaker, All-contains}
-use Rattle.hilti_base.specs.declared.names.ThreadId.{ThreadId}
 use Rattle.hilti_core.specs.declared.pieces.Item.{Item}
 use Rattle.hilti_core.specs.declared.pieces.Item.TheVariants.{Send, Line}
 use Rattle.hilti_pool.specs.declared.seat.Away.{Away}
 use Rattle.hilti_pool.specs.declared.seat.Posted.{Posted}
 use Rattle.hilti_pool.specs.declared.hall.Hall.{Hall}
-use Rattle.hilti_pool.specs.Hall.{receivers, IsFor, IsFirstFor, TakesFirst, HasSeat, HasLogRoom, HasNothing, Grows}
+use Rattle.hilti_pool.specs.Hall.{receivers, IsFor, IsFirstFor, TakesFirst, HasLogRoom, HasNothing, Grows}
 
 pub all_more : {A : Type 0} (P : A → Type 0) (xs : List A) (n : ℕ) (x : A) → n < length xs → x ≡ slice_index_or xs n x → All P (take n xs) → P x → All P (take (n + 1) xs)
 all_more P xs n x low is h here = subst (All P) (sym (take_more xs n x low ∙ ap (λ y. take n xs ++ y ∷ []) (sym is))) (All-push P (take n xs) x h here)

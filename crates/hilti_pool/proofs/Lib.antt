@@ -7,3 +7,7 @@ pub mod Rooms
 pub mod Causes
 pub mod Items
 pub mod Telling
+pub mod Taking
+pub mod Roll
+pub mod Adding
+pub mod Working

@@ -1,17 +1,14 @@
 -- Calls that wait, in their order of posting, against the inboxes.
-use Rattle.std.proofs.Common.{◌≡◌, ℕ, ◌+◌, ◌<◌, ◌≤◌, ◌≢◌, suc, Bool, true, false, cond, List, [], ◌∷◌, ◌++◌, length, map, refl, ap, sym, ◌∙◌, subst, arith, eqb, length-append}
+use Rattle.std.proofs.Common.{◌≡◌, ℕ, ◌+◌, ◌<◌, ◌≤◌, suc, Bool, true, false, cond, List, [], ◌∷◌, ◌++◌, length, map, refl, ap, sym, ◌∙◌, subst, arith, eqb, length-append}
 use Rattle.std.specs.List.{All}
-use Rattle.std.proofs.lemmas.Bool.{eqb-true, eqb-false, eq-eqb}
+use Rattle.std.proofs.lemmas.Bool.{eqb-true, eq-eqb}
 use Rattle.std.proofs.lemmas.List.{length_push}
 use Rattle.std.proofs.lemmas.List.Elements.{All-nil, All-cons, All-head, All-tail, All-append, All-weaker}
-use Rattle.hilti_base.specs.declared.names.ThreadId.{ThreadId}
 use Rattle.hilti_tree.specs.declared.call.Call.{Call}
 use Rattle.hilti_core.specs.declared.pieces.Item.{Item}
 use Rattle.hilti_core.specs.declared.pieces.Item.TheVariants.{Send, Line}
-use Rattle.hilti_core.specs.Sending.{Sender, Letter, letters, put_at}
-use Rattle.hilti_core.specs.Machine.{Start}
-use Rattle.hilti_core.specs.Core.{Waiting, Core, Post, arrivals, post, begins}
-use Rattle.hilti_core.proofs.Lists.{put_cases}
+use Rattle.hilti_core.specs.Sending.{Sender, Letter, letters}
+use Rattle.hilti_core.specs.Core.{Waiting, Core, arrivals, post, begins}
 use Rattle.hilti_pool.specs.declared.seat.Posted.{Posted}
 use Rattle.hilti_pool.specs.Hall.{posted_by, IsFor, NoneFor, TakesFirst}
 use Rattle.hilti_pool.specs.Stands.{Delivery, posted_of, inbox_in, AreInOrder, MailStands}

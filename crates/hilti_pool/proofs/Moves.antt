@@ -1,6 +1,6 @@
 -- What a pool keeps is kept by each event.
-use Rattle.std.proofs.Common.{◌≡◌, ℕ, ◌+◌, ◌<◌, ◌≤◌, ◌≢◌, ◌↔◌, zero, suc, Bool, true, false, cond, List, [], ◌∷◌, ◌++◌, length, map, drop, Option, Some, None, MatchOption, IsSome, Contains, refl, ap, sym, ◌∙◌, subst, arith, eqb, All, length-append}
-use Rattle.std.proofs.lemmas.Bool.{eqb-true, eqb-false, eq-eqb}
+use Rattle.std.proofs.Common.{◌≡◌, ℕ, ◌+◌, ◌<◌, ◌≤◌, ◌↔◌, zero, suc, Bool, true, false, cond, List, [], ◌∷◌, ◌++◌, length, Option, Some, None, MatchOption, IsSome, Contains, refl, ap, sym, ◌∙◌, subst, arith, eqb, All}
+use Rattle.std.proofs.lemmas.Bool.{eqb-true}
 use Rattle.std.proofs.lemmas.List.{length_push}
 use Rattle.std.proofs.lemmas.List.Elements.{All-nil, All-contains, All-weaker, All-push, All-head}
 use Rattle.std.specs.Ordering.{nat_cmp}
@@ -8,27 +8,28 @@ use Rattle.std.specs.BTreeMap.{get}
 use Rattle.hilti_base.specs.declared.names.ThreadId.{ThreadId}
 use Rattle.hilti_tree.specs.declared.call.Call.{Call}
 use Rattle.hilti_core.specs.declared.event.Event.{Event}
-use Rattle.hilti_core.specs.declared.event.Event.TheVariants.{Feed, Take, Put}
-use Rattle.hilti_core.specs.Sending.{Effect, Sender.Capture, Letter, put_at}
+use Rattle.hilti_core.specs.declared.event.Event.TheVariants.{Feed, Take}
+use Rattle.hilti_core.specs.Sending.{Effect, Sender.Capture}
 use Rattle.hilti_core.specs.Machine.{Start}
 use Rattle.hilti_core.specs.Atomic.{started_calls}
 use Rattle.hilti_core.specs.Body.{Runs}
-use Rattle.hilti_core.specs.Core.{Waiting, Running, Resident, Core, fresh, core, core_of_none, play, begins, goes_on}
-use Rattle.hilti_core.specs.Kept.{IsKept, IsSoundCore}
+use Rattle.hilti_core.specs.Core.{Running, Resident, fresh, core_of_none, begins, goes_on}
+use Rattle.hilti_core.specs.Kept.{IsSoundCore}
 use Rattle.hilti_core.proofs.Lists.{put_both}
 use Rattle.hilti_core.proofs.Moves.{fed_core}
 use Rattle.hilti_core.proofs.Kept.{takes_more}
 use Rattle.hilti_pool.specs.declared.seat.Place.{Place}
 use Rattle.hilti_pool.specs.declared.seat.Place.TheVariants.{Fresh, Idle, Suspended, Out}
-use Rattle.hilti_pool.specs.declared.seat.Posted.{Posted}
 use Rattle.hilti_pool.specs.declared.hall.Hall.{Hall}
 use Rattle.hilti_pool.specs.Hall.{Face, face, face_of, seat_at, gone, HasSeat, Grows, Leaves, Wakes, TakesFirst, IsResting, IsAtHome, WasIdle}
-use Rattle.hilti_pool.specs.Work.{GoesOn, Begins}
-use Rattle.hilti_pool.specs.Stands.{Delivery, MailStands, PlaceStands, SeatStands, HallStands, StandsFor}
+use Rattle.hilti_pool.specs.Work.{HasWork, IsJob}
+use Rattle.hilti_pool.specs.Stands.{MailStands, PlaceStands, SeatStands, HallStands, StandsFor}
 use Rattle.hilti_pool.specs.Threads.{calls_of}
+use Rattle.hilti_pool.specs.Roll.{IsRoll, Enrols}
+use Rattle.hilti_pool.proofs.Roll.{roll_starts, roll_nothing}
 use Rattle.hilti_pool.proofs.Plays.{play_push, feeds, goes, starts}
 use Rattle.hilti_pool.proofs.Mail.{mail_posts, Heads, mail_starts, without}
-use Rattle.hilti_pool.proofs.Seats.{already_awake, rests_left, outs_left, one_if, calls_of-push, calls_of-within}
+use Rattle.hilti_pool.proofs.Seats.{put_here, already_awake, rests_left, outs_left, one_if, calls_of-push, calls_of-within}
 
 module _ {V : Type 0} (effect : Effect) (sound : Call → Type 0) (runs : V → Runs) where
   -- a thread that isn't at home can't be out, and so on: what a place at home says
@@ -44,10 +45,9 @@ module _ {V : Type 0} (effect : Effect) (sound : Call → Type 0) (runs : V → 
   -- a worker took a thread that was suspended
   pub resumed : (fed : List Call) (limit : ℕ) (journal : List Event) (started segments : ℕ) (old new : Hall V) (worker : ℕ) (thread : ThreadId) (vt : V) →
       (s : StandsFor effect sound runs fed limit journal started segments old) → s.c.out worker ≡ None → (face old thread.n).place ≡ Suspended vt → Leaves worker thread 0 old new →
-      Wakes thread.n old.resting.items new.resting.items → new.mail.items ≡ old.mail.items →
-      GoesOn runs thread.n (s.c.thread thread.n) (Some vt) × StandsFor effect sound runs fed limit (journal ++ Take worker thread ∷ []) started (segments + 1) new
-  resumed fed limit journal started segments old new worker thread vt s free place l w mail = (
-    record { running = at.1.0; suspended = at.1.1; runs_it = at.1.2 },
+      Wakes thread.n old.resting.items new.resting.items → new.mail.items ≡ old.mail.items → new.roll.items ≡ old.roll.items →
+      (t : StandsFor effect sound runs fed limit (journal ++ Take worker thread ∷ []) started (segments + 1) new) × IsJob sound runs worker thread.n (Some vt) None t.c
+  resumed fed limit journal started segments old new worker thread vt s free place l w mail roll = (
     record {
       c = goes_on worker thread.n s.c;
       is = play_push effect limit journal (Take worker thread) (Some (core_of_none fed)) s.c s.is ∙ goes effect limit worker thread s.c at.1.0 free at.0 at.1.1;
@@ -70,7 +70,13 @@ module _ {V : Type 0} (effect : Effect) (sound : Call → Type 0) (runs : V → 
         settled = subst (All (λ posted. HasSeat new posted.to.n)) (sym mail) (All-weaker (λ posted. HasSeat old posted.to.n) (λ posted. HasSeat new posted.to.n) (λ posted. l.seats posted.to.n) old.mail.items h.settled);
         resting = rests_left old new worker thread 0 l w h.resting;
         outs = outs_left old new worker thread 0 l (subst IsAtHome (sym place) tt) h.outs;
+        roll = subst (IsRoll s.c.started) (sym roll) h.roll;
       };
+    },
+    record {
+      out = put_here s.c.out worker (Some thread.n);
+      work = subst (λ x. HasWork sound runs thread.n x (Some vt) None) (sym (put_here s.c.thread thread.n (record (s.c.thread thread.n) { worker = Some worker })))
+          (record { running = at.1.0; busy = at.1.1; runs_it = at.1.2 });
     },
   )
     where
@@ -89,7 +95,7 @@ module _ {V : Type 0} (effect : Effect) (sound : Call → Type 0) (runs : V → 
   idle_place started r resident x None s is = let at = seat_fits started r resident x Fresh s is in (at.0, at.1, at.2)
   idle_place started r resident x (Some vt) s is = let at = seat_fits started r resident x (Idle vt) s is in (at.0, at.1, at.2)
 
-  idle_home : (place : Place V) (vt : Option V) → WasIdle vt place → IsAtHome place × ¬ IsResting place
+  pub idle_home : (place : Place V) (vt : Option V) → WasIdle vt place → IsAtHome place × ¬ IsResting place
   idle_home place None is = (subst IsAtHome (sym is) tt, λ x. subst IsResting is x)
   idle_home place (Some vt) is = (subst IsAtHome (sym is) tt, λ x. subst IsResting is x)
 
@@ -99,23 +105,11 @@ module _ {V : Type 0} (effect : Effect) (sound : Call → Type 0) (runs : V → 
   idle_few finished (Some running) n e h = absurd cc
 
   -- a worker took a thread to begin the first call that waited for it
-  pub begun : (fed : List Call) (limit : ℕ) (journal : List Event) (started segments : ℕ) (old new : Hall V) (worker : ℕ) (thread : ThreadId) (vt : Option V) (call : Call) →
+  pub begins_call : (fed : List Call) (limit : ℕ) (journal : List Event) (started segments : ℕ) (old new : Hall V) (worker : ℕ) (thread : ThreadId) (vt : Option V) (call : Call) →
       (s : StandsFor effect sound runs fed limit journal started segments old) → IsSoundCore sound s.c → s.c.out worker ≡ None → length s.c.started < limit →
-      WasIdle vt (face old thread.n).place → Leaves worker thread 1 old new → new.resting.items ≡ old.resting.items → TakesFirst thread.n call old.mail.items new.mail.items →
-      Begins sound runs thread.n s.c vt call × StandsFor effect sound runs fed limit (journal ++ Take worker thread ∷ []) (started + 1) (segments + 1) new
-  begun fed limit journal started segments old new worker thread vt call s sound_core free few place l resting takes = (
-    record {
-      idle = at.1;
-      head = heads.head;
-      rest = heads.rest;
-      inbox = heads.inbox;
-      call = heads.call;
-      sound_call = subst sound heads.call (All-head (λ w. sound w.message.call) heads.head heads.rest (subst (All (λ w. sound w.message.call)) heads.inbox (sound_core.inboxes thread.n)));
-      runs_it = at.2;
-      few = let a = idle_few (s.c.thread thread.n).finished (s.c.thread thread.n).running (face old thread.n).calls at.1 seat.few in
-          let b = calls_of-within thread.n s.c.started in
-          omega (arith, a, b, seat.calls, few, s.high);
-    },
+      WasIdle vt (face old thread.n).place → Leaves worker thread 1 old new → new.resting.items ≡ old.resting.items → TakesFirst thread.n call old.mail.items new.mail.items → Enrols thread.n old.roll.items new.roll.items →
+      (t : StandsFor effect sound runs fed limit (journal ++ Take worker thread ∷ []) (started + 1) (segments + 1) new) × IsJob sound runs worker thread.n vt (Some call) t.c
+  begins_call fed limit journal started segments old new worker thread vt call s sound_core free few place l resting takes enrols = (
     record {
       c = begins worker thread.n heads.head heads.rest s.c;
       is = play_push effect limit journal (Take worker thread) (Some (core_of_none fed)) s.c s.is ∙ starts effect limit worker thread s.c heads.head heads.rest free at.0 at.1 heads.inbox few;
@@ -133,7 +127,19 @@ module _ {V : Type 0} (effect : Effect) (sound : Call → Type 0) (runs : V → 
             (subst (All (λ posted. HasSeat old posted.to.n)) (sym takes.is) (without (λ posted. HasSeat old posted.to.n) takes.front takes.first takes.back (subst (All (λ posted. HasSeat old posted.to.n)) takes.was h.settled)));
         resting = rests_left old new worker thread 1 l (subst (Wakes thread.n old.resting.items) (sym resting) (already_awake old thread.n h.resting quiet.1)) h.resting;
         outs = outs_left old new worker thread 1 l quiet.0 h.outs;
+        roll = roll_starts s.c.started start old.roll.items new.roll.items h.roll enrols;
       };
+    },
+    record {
+      out = put_here s.c.out worker (Some thread.n);
+      work = subst (λ x. HasWork sound runs thread.n x vt (Some call)) (sym (put_here s.c.thread thread.n taken)) (record {
+        busy = ap (λ x. Some (record { call = x; given = 0 })) heads.call;
+        sound_call = subst sound heads.call (All-head (λ w. sound w.message.call) heads.head heads.rest (subst (All (λ w. sound w.message.call)) heads.inbox (sound_core.inboxes thread.n)));
+        runs_it = at.2;
+        few = let a = idle_few (s.c.thread thread.n).finished (s.c.thread thread.n).running (face old thread.n).calls at.1 seat.few in
+            let b = calls_of-within thread.n s.c.started in
+            omega (arith, a, b, seat.calls, few, s.high);
+      });
     },
   )
     where
@@ -179,10 +185,10 @@ module _ {V : Type 0} (effect : Effect) (sound : Call → Type 0) (runs : V → 
 
   -- a call was fed
   pub was_fed : (fed : List Call) (limit : ℕ) (journal : List Event) (started segments : ℕ) (old grown new : Hall V) (call : Call) →
-      StandsFor effect sound runs fed limit journal started segments old → sound call → Grows old grown → HasSeat grown 0 → new.seats ≡ grown.seats → new.resting ≡ grown.resting → new.outs ≡ grown.outs →
+      StandsFor effect sound runs fed limit journal started segments old → sound call → Grows old grown → HasSeat grown 0 → new.seats ≡ grown.seats → new.resting ≡ grown.resting → new.outs ≡ grown.outs → new.roll ≡ grown.roll →
       new.mail.items ≡ grown.mail.items ++ record { to = record { n = 0 }; call = call } ∷ [] →
       StandsFor effect sound runs (fed ++ call ∷ []) limit (journal ++ Feed ∷ []) started segments new
-  was_fed fed limit journal started segments old grown new call s is_sound g seat seats resting outs mail = record {
+  was_fed fed limit journal started segments old grown new call s is_sound g seat seats resting outs roll mail = record {
     c = fed_core call [] s.c;
     is = play_push effect limit journal Feed (Some (core_of_none (fed ++ call ∷ []))) (record s.c { unfed = s.c.unfed ++ call ∷ [] }) (takes_more effect fed (call ∷ []) limit journal s.c s.is)
         ∙ feeds effect limit s.c call s.unfed;
@@ -204,6 +210,7 @@ module _ {V : Type 0} (effect : Effect) (sound : Call → Type 0) (runs : V → 
       resting = λ r. subst (λ x. Contains new.resting.items r ↔ IsResting x.place) (sym (faces r)) (subst (λ x. Contains x r ↔ IsResting (face old r).place) (sym (ap (λ x. x.items) resting ∙ g.resting)) (h.resting r));
       outs = λ w t. subst (λ x. Contains new.outs.items (record { worker = w; thread = t }) ↔ (x.place ≡ Out w)) (sym (faces t.n))
           (subst (λ x. Contains x (record { worker = w; thread = t }) ↔ ((face old t.n).place ≡ Out w)) (sym (ap (λ x. x.items) outs ∙ g.outs)) (h.outs w t));
+      roll = subst (IsRoll s.c.started) (sym (ap (λ x. x.items) roll ∙ g.roll)) h.roll;
     };
   }
     where
@@ -218,8 +225,8 @@ module _ {V : Type 0} (effect : Effect) (sound : Call → Type 0) (runs : V → 
 
   -- nothing happened yet
   pub nothing_yet : (fed : List Call) (limit : ℕ) (journal : List Event) (hall : Hall V) → 1 ≤ limit → limit ≤ 100000000 → fed ≡ [] → journal ≡ [] → ((r : ℕ) → seat_at hall r ≡ None) →
-      hall.mail.items ≡ [] → hall.resting.items ≡ [] → hall.outs.items ≡ [] → StandsFor effect sound runs fed limit journal 0 0 hall
-  nothing_yet fed limit journal hall low high no_calls no_events seats mail resting outs =
+      hall.mail.items ≡ [] → hall.resting.items ≡ [] → hall.outs.items ≡ [] → hall.roll.items ≡ [] → StandsFor effect sound runs fed limit journal 0 0 hall
+  nothing_yet fed limit journal hall low high no_calls no_events seats mail resting outs roll =
       subst (λ calls. StandsFor effect sound runs calls limit journal 0 0 hall) (sym no_calls) (subst (λ events. StandsFor effect sound runs [] limit events 0 0 hall) (sym no_events) (record {
         c = core_of_none [];
         is = refl;
@@ -239,6 +246,7 @@ module _ {V : Type 0} (effect : Effect) (sound : Call → Type 0) (runs : V → 
             λ here. absurd (empty_list (record { worker = w; thread = t }) (subst (λ l. Contains l (record { worker = w; thread = t })) outs here)),
             λ is. absurd (let e = sym (ap (λ x. x.place) (ap face_of (seats t.n))) ∙ is in cc),
           );
+          roll = roll_nothing hall.roll.items roll;
         };
       }))
     where
@@ -266,15 +274,16 @@ module _ {V : Type 0} (effect : Effect) (sound : Call → Type 0) (runs : V → 
           resting = λ r. subst (λ x. Contains new.resting.items r ↔ IsResting x.place) (sym (g.faces r)) (subst (λ x. Contains x r ↔ IsResting (face old r).place) (sym g.resting) (s.hall_stands.resting r));
           outs = λ w t. subst (λ x. Contains new.outs.items (record { worker = w; thread = t }) ↔ (x.place ≡ Out w)) (sym (g.faces t.n))
               (subst (λ x. Contains x (record { worker = w; thread = t }) ↔ ((face old t.n).place ≡ Out w)) (sym g.outs) (s.hall_stands.outs w t));
+          roll = subst (IsRoll s.c.started) (sym g.roll) s.hall_stands.roll;
         };
       }))
 
   -- a call was fed, by what each part of the pool is then
   pub fed_on : (fed calls : List Call) (limit : ℕ) (journal noted events : List Event) (started segments : ℕ) (old grown new : Hall V) (call : Call) →
       StandsFor effect sound runs fed limit journal started segments old → sound call → calls ≡ fed ++ call ∷ [] → noted ≡ journal → events ≡ noted ++ Feed ∷ [] →
-      Grows old grown → HasSeat grown 0 → new.seats ≡ grown.seats → new.resting ≡ grown.resting → new.outs ≡ grown.outs →
+      Grows old grown → HasSeat grown 0 → new.seats ≡ grown.seats → new.resting ≡ grown.resting → new.outs ≡ grown.outs → new.roll ≡ grown.roll →
       new.mail.items ≡ grown.mail.items ++ record { to = record { n = 0 }; call = call } ∷ [] → StandsFor effect sound runs calls limit events started segments new
-  fed_on fed calls limit journal noted events started segments old grown new call s is_sound a b c g seat seats resting outs mail =
+  fed_on fed calls limit journal noted events started segments old grown new call s is_sound a b c g seat seats resting outs roll mail =
       subst (λ x. StandsFor effect sound runs x limit events started segments new) (sym a)
       (subst (λ x. StandsFor effect sound runs (fed ++ call ∷ []) limit x started segments new) (sym (c ∙ ap (λ l. l ++ Feed ∷ []) b))
-      (was_fed fed limit journal started segments old grown new call s is_sound g seat seats resting outs mail))
+      (was_fed fed limit journal started segments old grown new call s is_sound g seat seats resting outs roll mail))

@@ -4,7 +4,7 @@ use Rattle.std.proofs.lemmas.List.Elements.{All-weaker}
 use Rattle.std.specs.VecDeque.{deque_len, deque_capacity}
 use Rattle.hilti_core.specs.declared.pieces.Item.{Item}
 use Rattle.hilti_pool.specs.declared.hall.Hall.{Hall}
-use Rattle.hilti_pool.specs.Hall.{face, HasSeat, HasLogRoom, HasRoom, Grows, receivers}
+use Rattle.hilti_pool.specs.Hall.{HasSeat, HasLogRoom, HasRoom, Grows, receivers}
 
 module _ {V : Type 0} where
   pub grows_same : (a : Hall V) → Grows a a
@@ -21,6 +21,9 @@ module _ {V : Type 0} where
     outs = refl;
     outs_len = refl;
     outs_room = omega arith;
+    roll = refl;
+    roll_len = refl;
+    roll_room = omega arith;
   }
 
   pub grows_on : (a b c : Hall V) → Grows a b → Grows b c → Grows a c
@@ -37,6 +40,9 @@ module _ {V : Type 0} where
     outs = h.outs ∙ g.outs;
     outs_len = h.outs_len ∙ g.outs_len;
     outs_room = omega (arith, g.outs_room, h.outs_room);
+    roll = h.roll ∙ g.roll;
+    roll_len = h.roll_len ∙ g.roll_len;
+    roll_room = omega (arith, g.roll_room, h.roll_room);
   }
 
   pub room_stays : (items : List Item) (a b : Hall V) → Grows a b → HasRoom items a → HasRoom items b
@@ -44,6 +50,7 @@ module _ {V : Type 0} where
     mail = omega (arith, h.mail, g.mail_len, g.mail_room);
     resting = omega (arith, h.resting, g.resting_len, g.resting_room);
     outs = omega (arith, h.outs, g.outs_len, g.outs_room);
+    roll = omega (arith, h.roll, g.roll_len, g.roll_room);
     seats = All-weaker (HasSeat a) (HasSeat b) g.seats (receivers items) h.seats;
     logs = subst (λ l. All (λ away. HasLogRoom (length items) b away.thread.n) l) (sym g.outs)
         (All-weaker (λ away. HasLogRoom (length items) a away.thread.n) (λ away. HasLogRoom (length items) b away.thread.n) (λ away. g.logs (length items) away.thread.n) a.outs.items h.logs);
@@ -54,6 +61,18 @@ module _ {V : Type 0} where
       IfSome room (λ items. HasRoom (value items) a × (len + 1 ≤ cap)) → IfSome room (λ items. HasRoom (value items) b × (new_len + 1 ≤ new_cap))
   rooms_stay value None a b len cap new_len new_cap g same more h = tt
   rooms_stay value (Some items) a b len cap new_len new_cap g same more h = (room_stays (value items) a b g h.0, omega (arith, h.1, same, more))
+
+  -- room was made, one part after another
+  pub room_made : (items : List Item) (count : ℕ) (a b d : Hall V) → count ≡ length items → deque_len a.mail + count ≤ deque_capacity a.mail → vec_len a.resting + 1 ≤ vec_capacity a.resting →
+      vec_len a.outs + 1 ≤ vec_capacity a.outs → vec_len a.roll + 1 ≤ vec_capacity a.roll → Grows a b → All (HasSeat b) (receivers items) → Grows b d → All (λ away. HasLogRoom count d away.thread.n) d.outs.items → HasRoom items d
+  room_made items count a b d is mail resting outs roll g seats h logs = record {
+    mail = omega (arith, is, mail, g.mail_len, g.mail_room, h.mail_len, h.mail_room);
+    resting = omega (arith, resting, g.resting_len, g.resting_room, h.resting_len, h.resting_room);
+    outs = omega (arith, outs, g.outs_len, g.outs_room, h.outs_len, h.outs_room);
+    roll = omega (arith, roll, g.roll_len, g.roll_room, h.roll_len, h.roll_room);
+    seats = All-weaker (HasSeat b) (HasSeat d) h.seats (receivers items) seats;
+    logs = subst (λ n. All (λ away. HasLogRoom n d away.thread.n) d.outs.items) is logs;
+  }
 
 -- the room that a pool has told
 pub has_room : {X : Type 0} (value : X → List Item) (room : Option X) (P : X → Type 0) → IsSome (option_map value room) → IfSome room P → (x : X) × P x

@@ -1,18 +1,20 @@
 -- The seats, the threads at rest and those that are out, when a worker takes a thread and when it puts one back.
-use Rattle.std.proofs.Common.{◌≡◌, ℕ, ◌+◌, ◌<◌, ◌≤◌, ◌≢◌, ◌⊎◌, inl, inr, ◌↔◌, suc, Bool, true, false, cond, List, [], ◌∷◌, ◌++◌, length, Option, Some, None, refl, ap, sym, ◌∙◌, subst, arith, eqb, not, filter, All, Contains}
+use Rattle.std.proofs.Common.{◌≡◌, ℕ, ◌+◌, ◌≤◌, ◌≢◌, inl, inr, ◌↔◌, suc, Bool, true, false, cond, List, [], ◌∷◌, ◌++◌, length, refl, ap, sym, ◌∙◌, subst, arith, eqb, not, filter, Contains}
 use Rattle.std.proofs.lemmas.Bool.{eqb-true, eqb-false, eq-eqb}
 use Rattle.std.proofs.lemmas.List.Elements.{All-nil, All-cons, All-contains, Contains-append_left, Contains-append_right, Contains-append_cases, Contains-push, Contains-push_cases}
 use Rattle.hilti_base.specs.declared.names.ThreadId.{ThreadId}
 use Rattle.hilti_core.specs.Sending.{put_at}
 use Rattle.hilti_core.specs.Machine.{Start}
-use Rattle.hilti_core.specs.Body.{Runs}
-use Rattle.hilti_core.specs.Core.{Running, Resident, Core}
 use Rattle.hilti_pool.specs.declared.seat.Away.{Away}
 use Rattle.hilti_pool.specs.declared.seat.Place.{Place}
-use Rattle.hilti_pool.specs.declared.seat.Place.TheVariants.{Fresh, Idle, Suspended, Out}
+use Rattle.hilti_pool.specs.declared.seat.Place.TheVariants.{Out}
 use Rattle.hilti_pool.specs.declared.hall.Hall.{Hall}
-use Rattle.hilti_pool.specs.Hall.{Face, face, gone, back_home, Leaves, Wakes, ComesBack, IsResting, IsAtHome}
+use Rattle.hilti_pool.specs.Hall.{face, gone, Leaves, Wakes, IsResting, IsAtHome}
 use Rattle.hilti_pool.specs.Threads.{calls_of}
+
+-- the value at the number where it was put
+pub put_here : {A : Type 0} (f : ℕ → A) (n : ℕ) (v : A) → put_at f n v n ≡ v
+put_here f n v = ap (λ b. cond b v (f n)) (eq-eqb n n refl)
 
 abbrev pub one_if : Bool → ℕ
 one_if b = cond b 1 0

@@ -1,5 +1,5 @@
 -- What a pool tells of its core.
-use Rattle.std.proofs.Common.{◌≡◌, ℕ, ◌+◌, ◌<◌, ◌≤◌, ◌⊎◌, inl, inr, ◌↔◌, Bool, true, false, cond, List, [], ◌∷◌, length, map, Option, Some, None, MatchOption, option_map, refl, ap, sym, ◌∙◌, subst, arith, eqb, All, Contains}
+use Rattle.std.proofs.Common.{◌≡◌, ℕ, ◌≤◌, inl, inr, Bool, true, false, cond, List, [], ◌∷◌, length, map, Option, Some, None, MatchOption, option_map, refl, ap, sym, ◌∙◌, subst, arith, eqb, All, Contains}
 use Rattle.std.proofs.lemmas.Bool.{eq-eqb}
 use Rattle.std.proofs.lemmas.List.Elements.{All-nil, All-cons, All-head, All-tail, All-contains}
 use Rattle.hilti_base.specs.declared.names.ThreadId.{ThreadId}
@@ -7,13 +7,12 @@ use Rattle.hilti_tree.specs.declared.call.Call.{Call}
 use Rattle.hilti_core.specs.Body.{Runs}
 use Rattle.hilti_core.specs.Core.{Waiting, Core}
 use Rattle.hilti_core.specs.Kept.{IsKept}
-use Rattle.hilti_pool.specs.declared.seat.Away.{Away}
-use Rattle.hilti_pool.specs.declared.seat.Place.{Place}
-use Rattle.hilti_pool.specs.declared.seat.Place.TheVariants.{Out}
 use Rattle.hilti_pool.specs.declared.seat.Posted.{Posted}
 use Rattle.hilti_pool.specs.declared.hall.Hall.{Hall}
 use Rattle.hilti_pool.specs.Readiness.{NoneSuspended, IsFirst, IsFirstPosted}
-use Rattle.hilti_pool.specs.Hall.{face, HasNothing, HasThread, ComesFirst}
+use Rattle.hilti_core.specs.Sending.{Text}
+use Rattle.hilti_pool.specs.Roll.{IsLogAt, EndsBy}
+use Rattle.hilti_pool.specs.Hall.{HasNothing, HasThread, ComesFirst, IsLogOf}
 use Rattle.hilti_pool.specs.Stands.{Delivery, posted_of, inbox_in, AreInOrder, PlaceStands, HallStands}
 use Rattle.hilti_pool.proofs.Homecoming.{was_out}
 use Rattle.hilti_pool.proofs.Causes.{in_nothing, rests_in, suspended_in, no_mail}
@@ -39,6 +38,10 @@ first_posted c first rest (w ∷ ws) is o inboxes =
           (inbox_all (λ x. w.waiting.number ≤ x.number) other (w ∷ ws) (All-cons (λ d. w.waiting.number ≤ d.waiting.number) w ws (omega arith) o.0));
     }
 
+pub match_weaker : {X : Type 0} (o : Option X) (P Q : Type 0) (A B : X → Type 0) → (P → Q) → ((x : X) → A x → B x) → MatchOption o P A → MatchOption o Q B
+match_weaker None P Q A B none some h = none h
+match_weaker (Some x) P Q A B none some h = some x h
+
 module _ {V : Type 0} (runs : V → Runs) (c : Core) (hall : Hall V) (h : HallStands runs c hall) where
   none_rests : hall.resting.items ≡ [] → NoneSuspended c
   none_rests none r s = in_nothing r (subst (λ l. Contains l r) none ((h.resting r).1 (rests_in runs c hall r h s)))
@@ -63,3 +66,16 @@ module _ {V : Type 0} (runs : V → Runs) (c : Core) (hall : Hall V) (h : HallSt
       go (Some r) is = absurd (none (record { n = r }) ((h.outs worker (record { n = r })).1 (was_out (λ t finished call. []) (λ call. Unit {0}) runs fed limit worker r c hall h kept is)))
   has_out fed limit worker (Some thread) kept here =
       kept.seats.sits thread.n worker (subst (PlaceStands runs thread.n (c.thread thread.n)) ((h.outs worker thread).0 here) (h.seats thread.n).place).0
+
+  -- what is told of a thread that ran
+  pub log_told : (place thread calls : ℕ) (lines : List Text) → IsLogOf hall place thread calls lines → IsLogAt place thread calls lines c
+  log_told place thread calls lines l = record {
+    roll = hall.roll.items;
+    is = h.roll;
+    at = l.at;
+    calls_are = l.calls_are ∙ (h.seats thread).calls;
+    lines_are = l.lines_are ∙ (h.seats thread).log;
+  }
+
+  pub log_ends : (place : ℕ) → length hall.roll.items ≤ place → EndsBy place c
+  log_ends place past = record { roll = hall.roll.items; is = h.roll; ends = past }

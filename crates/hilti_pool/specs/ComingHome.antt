@@ -17,3 +17,4 @@ pub record ComesToRest {V : Type 0} (worker : ℕ) (thread : ThreadId) (vt : V) 
   pub mail : new.mail.items ≡ old.mail.items ++ posted_by items
   pub resting : new.resting.items ≡ old.resting.items ++ thread.n ∷ []
   pub outs : new.outs.items ≡ filter (λ away. not (away.worker == worker)) old.outs.items
+  pub roll : new.roll ≡ old.roll

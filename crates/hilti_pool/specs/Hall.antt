@@ -1,6 +1,6 @@
 -- What the calls of a hall read and change: each thread's seat, by its number, and the room for
 -- more.
-use Rattle.std.specs.Prelude.{ℕ, ◌+◌, ◌<◌, ◌≤◌, ◌≢◌, ◌==◌, Bool, true, false, not, filter, List, []}
+use Rattle.std.specs.Prelude.{ℕ, ◌+◌, ◌<◌, ◌≤◌, ◌≢◌, ◌==◌, Bool, true, not, filter, List, []}
 use Rattle.std.specs.Prelude.{◌∷◌, ◌++◌, length, take, slice_get, Option, Some, None, ◌≡◌, ◌↔◌, ◌⊎◌}
 use Rattle.std.specs.Prelude.{IsSome, IsSomeAnd, vec_len, vec_capacity}
 use Rattle.std.specs.List.{All, Contains}
@@ -18,6 +18,7 @@ use Rattle.hilti_pool.specs.declared.seat.Place.TheVariants.{Fresh, Idle, Suspen
 use Rattle.hilti_pool.specs.declared.seat.Posted.{Posted}
 use Rattle.hilti_pool.specs.declared.seat.Away.{Away}
 use Rattle.hilti_pool.specs.declared.hall.Hall.{Hall}
+use Rattle.hilti_pool.specs.Roll.{Enrols}
 
 -- the calls that these items send, in order
 abbrev pub posted_by : List Item → List Posted
@@ -58,6 +59,11 @@ pub record TakesFirst (r : ℕ) (taken : Call) (old new : List Posted) : Type 0 
 -- the thread is no longer among those that are suspended at home
 abbrev pub Wakes : ℕ → List ℕ → List ℕ → Type 0
 Wakes thread old new = (r : ℕ) → Contains new r ↔ (Contains old r × (r ≢ thread))
+
+-- how many calls begin: none or one
+abbrev pub count_begun : Option Call → ℕ
+count_begun None = 0
+count_begun (Some call) = 1
 
 -- the worker has no thread
 abbrev pub HasNothing : ℕ → List Away → Type 0
@@ -100,6 +106,7 @@ module _ {V : Type 0} where
     pub mail : deque_len hall.mail + length items ≤ deque_capacity hall.mail
     pub resting : vec_len hall.resting + 1 ≤ vec_capacity hall.resting
     pub outs : vec_len hall.outs + 1 ≤ vec_capacity hall.outs
+    pub roll : vec_len hall.roll + 1 ≤ vec_capacity hall.roll
     pub seats : All (HasSeat hall) (receivers items)
     pub logs : All (λ away. HasLogRoom (length items) hall away.thread.n) hall.outs.items
 
@@ -117,6 +124,9 @@ module _ {V : Type 0} where
     pub outs : new.outs.items ≡ old.outs.items
     pub outs_len : vec_len new.outs ≡ vec_len old.outs
     pub outs_room : vec_capacity old.outs ≤ vec_capacity new.outs
+    pub roll : new.roll.items ≡ old.roll.items
+    pub roll_len : vec_len new.roll ≡ vec_len old.roll
+    pub roll_room : vec_capacity old.roll ≤ vec_capacity new.roll
 
   -- the thread's face when a worker took it, with so many calls more
   abbrev pub gone : ℕ → ℕ → Face V → Face V
@@ -142,6 +152,7 @@ module _ {V : Type 0} where
     pub mail : new.mail.items ≡ old.mail.items ++ posted_by items
     pub resting : new.resting ≡ old.resting
     pub outs : new.outs.items ≡ filter (λ away. not (away.worker == worker)) old.outs.items
+    pub roll : new.roll ≡ old.roll
 
   -- the thread of this place isn't out
   abbrev pub IsAtHome : Place V → Type 0
@@ -179,6 +190,46 @@ module _ {V : Type 0} where
   abbrev pub WasIdle : Option V → Place V → Type 0
   WasIdle None place = place ≡ Fresh
   WasIdle (Some vt) place = place ≡ Idle vt
+
+  -- a thread at home that a call waits for
+  pub record CanBegin (hall : Hall V) (r : ℕ) : Type 0 where
+    pub seat : HasSeat hall r
+    pub home : IsAtHome (face hall r).place
+    pub waits : ¬ NoneFor r hall.mail.items
+
+  -- the thread is suspended at home, or, where calls may start, at home, and a call waits for it
+  abbrev pub CanGo : Bool → Hall V → ℕ → Type 0
+  CanGo may hall r = IsResting (face hall r).place
+      ⊎ ((may ≡ true) × IsAtHome (face hall r).place × ¬ NoneFor r hall.mail.items)
+
+  -- the worker has the thread, which was suspended
+  pub record GoesOut (worker : ℕ) (thread : ThreadId) (vt : Option V) (old new : Hall V) :
+      Type 0 where
+    pub place : IsSomeAnd vt (λ vt. (face old thread.n).place ≡ Suspended vt)
+    pub leaves : Leaves worker thread 0 old new
+    pub resting : Wakes thread.n old.resting.items new.resting.items
+    pub mail : new.mail.items ≡ old.mail.items
+    pub roll : new.roll.items ≡ old.roll.items
+
+  -- the worker has the thread, which begins the first call that waited for it
+  pub record SetsOut (worker : ℕ) (thread : ThreadId) (vt : Option V) (call : Call)
+      (old new : Hall V) : Type 0 where
+    pub place : WasIdle vt (face old thread.n).place
+    pub leaves : Leaves worker thread 1 old new
+    pub resting : new.resting.items ≡ old.resting.items
+    pub mail : TakesFirst thread.n call old.mail.items new.mail.items
+    pub roll : Enrols thread.n old.roll.items new.roll.items
+
+  -- one of both, by whether a call begins
+  abbrev pub Departs : ℕ → ThreadId → Option V → Option Call → Hall V → Hall V → Type 0
+  Departs worker thread vt None old new = GoesOut worker thread vt old new
+  Departs worker thread vt (Some call) old new = SetsOut worker thread vt call old new
+
+  -- the thread at a place of those that ran, how many calls it started, and its lines
+  pub record IsLogOf (hall : Hall V) (place thread calls : ℕ) (lines : List Text) : Type 0 where
+    pub at : slice_get hall.roll.items place ≡ Some thread
+    pub calls_are : calls ≡ (face hall thread).calls
+    pub lines_are : lines ≡ (face hall thread).log
 
   -- where one worker runs all: a thread at rest of least number, else that of the first call that
   -- waits

@@ -1,11 +1,11 @@
 -- What a pool keeps, against the core that it stands for.
-use Rattle.std.specs.Prelude.{ℕ, ◌+◌, ◌==◌, ◌<◌, ◌≤◌, cond, List, [], ◌∷◌, ◌++◌, length, map}
-use Rattle.std.specs.Prelude.{filter, Option, Some, None, ◌≡◌, ◌↔◌}
+use Rattle.std.specs.Prelude.{ℕ, ◌+◌, ◌==◌, ◌<◌, ◌≤◌, cond, List, [], ◌∷◌, length, map}
+use Rattle.std.specs.Prelude.{Some, None, ◌≡◌, ◌↔◌}
 use Rattle.std.specs.List.{All, Contains}
 use Rattle.hilti_base.specs.declared.names.ThreadId.{ThreadId}
 use Rattle.hilti_tree.specs.declared.call.Call.{Call}
 use Rattle.hilti_core.specs.declared.event.Event.{Event}
-use Rattle.hilti_core.specs.Sending.{Text, Letter, Sender, Message, Effect}
+use Rattle.hilti_core.specs.Sending.{Effect}
 use Rattle.hilti_core.specs.Machine.{Start}
 use Rattle.hilti_core.specs.Core.{Waiting, Running, Resident, Core, core}
 use Rattle.hilti_core.specs.Atomic.{started_calls}
@@ -16,6 +16,7 @@ use Rattle.hilti_pool.specs.declared.seat.Posted.{Posted}
 use Rattle.hilti_pool.specs.declared.hall.Hall.{Hall}
 use Rattle.hilti_pool.specs.Hall.{Face, face, HasSeat, IsResting}
 use Rattle.hilti_pool.specs.Threads.{calls_of}
+use Rattle.hilti_pool.specs.Roll.{IsRoll}
 
 -- a waiting call and the thread that it waits for
 pub record Delivery : Type 0 where
@@ -75,6 +76,7 @@ module _ {V : Type 0} where
     pub outs : (worker : ℕ) (thread : ThreadId)
         → Contains hall.outs.items (record { worker = worker; thread = thread })
         ↔ ((face hall thread.n).place ≡ Out worker)
+    pub roll : IsRoll c.started hall.roll.items
 
   -- the numbers and the hall of a pool stand for the core of its journal, to which all of these
   -- calls were fed

@@ -1,5 +1,5 @@
 ghost use Rattle.std.specs.Prelude.{◌≡◌, ◌+◌, ◌<◌, ◌≤◌, ◌^◌, ◌↔◌, ℕ, [], ◌∷◌, ◌++◌, length, IsTrue};
-ghost use Rattle.std.specs.Prelude.{IsSome, IfSome, MatchOption, IfNone, None, MatchBool, not};
+ghost use Rattle.std.specs.Prelude.{◌⊎◌, IsSome, IfSome, MatchOption, IfNone, None, MatchBool, not};
 ghost use Rattle.std.specs.Prelude.{filter, ◌==◌, take, OnOk, vec_len, vec_capacity};
 ghost use Rattle.std.specs.List.{All, Contains};
 ghost use Rattle.std.specs.VecDeque.{deque_len, deque_capacity};
@@ -11,6 +11,9 @@ ghost use Rattle.hilti_pool.specs.Hall.{face, back_home, seat_at, HasSeat, HasLo
 ghost use Rattle.hilti_pool.specs.Hall.{Grows, Leaves, Wakes, ComesBack, TakesFirst, posted_by};
 ghost use Rattle.hilti_pool.specs.Hall.{receivers, NoneFor, IsFirstFor, IsAtHome, IsResting};
 ghost use Rattle.hilti_pool.specs.Hall.{NoneAtHome, IsAwaited, MayGo, NoneMayGo, WasIdle};
+ghost use Rattle.std.specs.List.Sorted.{IsStrictlyIncreasing};
+ghost use Rattle.hilti_pool.specs.Roll.{Enrols};
+ghost use Rattle.hilti_pool.specs.Hall.{CanBegin, CanGo, Departs, IsLogOf};
 ghost use Rattle.hilti_pool.specs.Hall.{HasNothing, HasThread, ComesFirst};
 
 use crate::seat::{Away, Place, Posted, Seat};
@@ -29,6 +32,8 @@ pub(crate) struct Hall<T> {
     pub(crate) mail: VecDeque<Posted>,
     pub(crate) resting: Vec<u64>,
     pub(crate) outs: Vec<Away>,
+    /// The threads that started a call, by rising number.
+    pub(crate) roll: Vec<u64>,
 }
 
 impl<T: Drop> Hall<T> {
@@ -37,6 +42,7 @@ impl<T: Drop> Hall<T> {
         ensures mail { result.mail.items ≡ [] }
         ensures resting { result.resting.items ≡ [] }
         ensures outs { result.outs.items ≡ [] }
+        ensures roll { result.roll.items ≡ [] }
     {
         Hall {
             alloc,
@@ -44,6 +50,7 @@ impl<T: Drop> Hall<T> {
             mail: VecDeque::new(alloc),
             resting: Vec::new(alloc),
             outs: Vec::new(alloc),
+            roll: Vec::new(alloc),
         }
     }
 
@@ -71,10 +78,12 @@ impl<T: Drop> Hall<T> {
         ensures resting { OnOk result (vec_len self.new.resting + 1
             ≤ vec_capacity self.new.resting) }
         ensures outs { OnOk result (vec_len self.new.outs + 1 ≤ vec_capacity self.new.outs) }
+        ensures roll { OnOk result (vec_len self.new.roll + 1 ≤ vec_capacity self.new.roll) }
     {
         self.mail.reserve(count)?;
         self.resting.reserve(1)?;
         self.outs.reserve(1)?;
+        self.roll.reserve(1)?;
         Ok(())
     }
 
@@ -126,6 +135,18 @@ impl<T: Drop> Hall<T> {
         Ok(())
     }
 
+    /// Makes room to post these items, by any thread that is out, and to take a thread or to give one back.
+    pub(crate) fn reserve(&mut self, items: &Items) -> Result<(), NoMemory>
+        ensures grows { Grows self.old self.new }
+        ensures room { OnOk result (HasRoom items.now self.new) }
+    {
+        let count = items.len();
+        self.reserve_places(count)?;
+        self.settle_receivers(items)?;
+        self.reserve_logs(count)?;
+        Ok(())
+    }
+
     /// Is the thread at home?
     pub(crate) fn is_home(&self, thread: ThreadId) -> bool
         ensures { IsTrue result ↔ IsAtHome (face self.now thread.n).place }
@@ -160,6 +181,7 @@ impl<T: Drop> Hall<T> {
         ensures seats { self.new.seats ≡ self.old.seats }
         ensures resting { self.new.resting ≡ self.old.resting }
         ensures outs { self.new.outs ≡ self.old.outs }
+        ensures roll { self.new.roll ≡ self.old.roll }
     {
         let place = self.place_of(thread)?;
         match self.mail.remove(place) {
@@ -202,6 +224,20 @@ impl<T: Drop> Hall<T> {
         None
     }
 
+    /// Does any call wait?
+    pub(crate) fn has_any_mail(&self) -> bool
+        ensures { MatchBool result (¬ (self.now.mail.items ≡ [])) (self.now.mail.items ≡ []) }
+    {
+        !self.mail.is_empty()
+    }
+
+    /// Is some thread out?
+    pub(crate) fn has_out(&self) -> bool
+        ensures { MatchBool result (¬ (self.now.outs.items ≡ [])) (self.now.outs.items ≡ []) }
+    {
+        !self.outs.is_empty()
+    }
+
     /// The thread of least number that is suspended at home, else the one that the first call waits for.
     pub(crate) fn first_arrived(&self) -> Option<ThreadId>
         ensures { ComesFirst self.now result }
@@ -222,6 +258,7 @@ impl<T: Drop> Hall<T> {
         ensures seats { self.new.seats ≡ self.old.seats }
         ensures mail { self.new.mail ≡ self.old.mail }
         ensures outs { self.new.outs ≡ self.old.outs }
+        ensures roll { self.new.roll ≡ self.old.roll }
     {
         self.resting.retain(|other| *other != thread.n);
     }
@@ -234,6 +271,19 @@ impl<T: Drop> Hall<T> {
             Some(seat) => matches!(&seat.place, Place::Suspended(_)),
             None => false,
         }
+    }
+
+    /// Is the thread suspended at home, or, where calls may start, at home with a call that waits for it?
+    pub(crate) fn can_go(&self, thread: ThreadId, may_start: bool) -> bool
+        ensures { IsTrue result ↔ CanGo may_start self.now thread.n }
+    {
+        if self.is_suspended(thread) {
+            return true;
+        }
+        if may_start && self.is_home(thread) {
+            return self.has_mail(thread);
+        }
+        false
     }
 
     /// A thread that is suspended at home, or, where calls may start, one at home that a call waits for.
@@ -249,8 +299,25 @@ impl<T: Drop> Hall<T> {
         None
     }
 
+    /// A worker takes a thread, to go on with its call or to begin the first one that waits for it.
+    pub(crate) fn send_out(&mut self, worker: u32, thread: ThreadId) -> (Option<T>, Option<Call>)
+        requires can { IsResting (face self.old thread.n).place ⊎ CanBegin self.old thread.n }
+        requires room { vec_len self.old.outs + 1 ≤ vec_capacity self.old.outs }
+        requires few { (face self.old thread.n).calls ≤ 100000000 }
+        requires roll { vec_len self.old.roll + 1 ≤ vec_capacity self.old.roll }
+        requires rising { IsStrictlyIncreasing self.old.roll.items }
+        ensures { Departs worker thread result.0 result.1 self.old self.new }
+    {
+        if self.is_suspended(thread) {
+            let vt = self.resume(worker, thread);
+            return (Some(vt), None);
+        }
+        let (vt, call) = self.begin(worker, thread);
+        (vt, Some(call))
+    }
+
     /// A worker takes a thread that is suspended.
-    pub(crate) fn resume(&mut self, worker: u32, thread: ThreadId) -> T
+    fn resume(&mut self, worker: u32, thread: ThreadId) -> T
         requires suspended { IsResting (face self.old thread.n).place }
         requires room { vec_len self.old.outs + 1 ≤ vec_capacity self.old.outs }
         requires few { (face self.old thread.n).calls < 2 ^ 64 }
@@ -258,6 +325,7 @@ impl<T: Drop> Hall<T> {
         ensures leaves { Leaves worker thread 0 self.old self.new }
         ensures resting { Wakes thread.n self.old.resting.items self.new.resting.items }
         ensures mail { self.new.mail ≡ self.old.mail }
+        ensures roll { self.new.roll ≡ self.old.roll }
     {
         self.wake(thread);
         match self.leave(worker, thread, 0) {
@@ -267,21 +335,25 @@ impl<T: Drop> Hall<T> {
     }
 
     /// A worker takes a thread to begin the first call that waits for it.
-    pub(crate) fn begin(&mut self, worker: u32, thread: ThreadId) -> (Option<T>, Call)
+    fn begin(&mut self, worker: u32, thread: ThreadId) -> (Option<T>, Call)
         requires seat { HasSeat self.old thread.n }
         requires home { IsAtHome (face self.old thread.n).place
             × ¬ IsResting (face self.old thread.n).place }
         requires waits { ¬ NoneFor thread.n self.old.mail.items }
         requires room { vec_len self.old.outs + 1 ≤ vec_capacity self.old.outs }
-        requires few { (face self.old thread.n).calls < 100000000 }
+        requires few { (face self.old thread.n).calls ≤ 100000000 }
+        requires roll { vec_len self.old.roll + 1 ≤ vec_capacity self.old.roll }
+        requires rising { IsStrictlyIncreasing self.old.roll.items }
         ensures place { WasIdle result.0 (face self.old thread.n).place }
         ensures leaves { Leaves worker thread 1 self.old self.new }
         ensures resting { self.new.resting ≡ self.old.resting }
         ensures mail { TakesFirst thread.n result.1 self.old.mail.items self.new.mail.items }
+        ensures roll { Enrols thread.n self.old.roll.items self.new.roll.items }
     {
         let Some(call) = self.collect(thread) else {
             unreachable!()
         };
+        enrol(&mut self.roll, thread);
         match self.leave(worker, thread, 1) {
             Place::Fresh => (None, call),
             Place::Idle(vt) => (Some(vt), call),
@@ -298,6 +370,7 @@ impl<T: Drop> Hall<T> {
         ensures leaves { Leaves worker thread begun self.old self.new }
         ensures resting { self.new.resting ≡ self.old.resting }
         ensures mail { self.new.mail ≡ self.old.mail }
+        ensures roll { self.new.roll ≡ self.old.roll }
     {
         let away = Away { worker, thread };
         let Ok(()) = self.outs.push(away) else {
@@ -350,6 +423,7 @@ impl<T: Drop> Hall<T> {
         ensures mail { self.new.mail.items ≡ self.old.mail.items ++ posted_by items }
         ensures resting { self.new.resting ≡ self.old.resting }
         ensures outs { self.new.outs ≡ self.old.outs }
+        ensures roll { self.new.roll ≡ self.old.roll }
     {
         let Some(seat) = self.seats.get_mut(&thread.n) else {
             unreachable!()
@@ -365,10 +439,24 @@ impl<T: Drop> Hall<T> {
         ensures seats { self.new.seats ≡ self.old.seats }
         ensures mail { self.new.mail ≡ self.old.mail }
         ensures outs { self.new.outs ≡ self.old.outs }
+        ensures roll { self.new.roll ≡ self.old.roll }
     {
         let Ok(()) = self.resting.push(thread.n) else {
             unreachable!()
         };
+    }
+
+    /// The thread at a place of those that ran, with how many calls it started and its lines; `None` past the end.
+    pub(crate) fn log(&self, place: usize) -> Option<(ThreadId, u64, &[Blob])>
+        requires { (r : ℕ) → Contains self.now.roll.items r → 0 < (face self.now r).calls }
+        ensures { MatchOption result (length self.now.roll.items ≤ place)
+            (λ log. IsLogOf self.now place log.0.n log.1 log.2.now) }
+    {
+        let n = *self.roll.get(place)?;
+        let Some(seat) = self.seats.get(&n) else {
+            unreachable!()
+        };
+        Some((ThreadId { n }, seat.calls, seat.log.as_slice()))
     }
 
     /// Makes room for one more call to a thread.
@@ -389,11 +477,26 @@ impl<T: Drop> Hall<T> {
         ensures seats { self.new.seats ≡ self.old.seats }
         ensures resting { self.new.resting ≡ self.old.resting }
         ensures outs { self.new.outs ≡ self.old.outs }
+        ensures roll { self.new.roll ≡ self.old.roll }
     {
         let Ok(()) = self.mail.push_back(Posted { to, call }) else {
             unreachable!()
         };
     }
+}
+
+/// Puts a thread among those that ran, in its place by number, unless it is there.
+fn enrol(roll: &mut Vec<u64>, thread: ThreadId)
+    requires room { vec_len roll.old + 1 ≤ vec_capacity roll.old }
+    requires rising { IsStrictlyIncreasing roll.old.items }
+    ensures { Enrols thread.n roll.old.items roll.new.items }
+{
+    let Err(place) = roll.binary_search(&thread.n) else {
+        return;
+    };
+    let Ok(()) = roll.insert(place, thread.n) else {
+        unreachable!()
+    };
 }
 
 /// Posts items in their order: calls behind the mail, and lines behind the log.

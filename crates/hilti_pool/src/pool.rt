@@ -3,6 +3,7 @@ ghost use Rattle.std.specs.Prelude.{vec_capacity};
 ghost use Rattle.std.specs.VecDeque.{deque_len, deque_capacity};
 ghost use Rattle.hilti_pool.specs.Hall.{HasSeat, Grows};
 
+use crate::entries::Entry;
 use crate::hall::Hall;
 use hilti_base::{NoMemory, ThreadId};
 use hilti_core::{Body, Event, Items};
@@ -41,6 +42,7 @@ impl<B: Body> Model for Pool<B> {
 
     ghost use Rattle.hilti_pool.specs.Hall.{HasRoom};
     ghost use Rattle.hilti_pool.specs.Stands.{StandsFor};
+    ghost use Rattle.hilti_pool.specs.Entries.{AreEntries};
 
     ghost view = { λ a. record {
       about = B.facts a.body.value;
@@ -57,20 +59,24 @@ impl<B: Body> Model for Pool<B> {
         StandsFor (B.effect about) (B.sound about) (B.runs about)
         a.fed a.limit a.journal.items a.started a.segments a.hall
         × IfSome a.room (λ items. HasRoom items.value a.hall
-        × (vec_len a.journal + 1 ≤ vec_capacity a.journal)) };
+        × (vec_len a.journal + 1 ≤ vec_capacity a.journal))
+        × AreEntries a.fed a.journal.items a.ended };
 }
 
 impl<B: Body> Pool<B> {
     ghost use Rattle.std.specs.Prelude.{◌≡◌, ◌≤◌, true, false, Some, None, IsSome, OnOk, OnErr};
     ghost use Rattle.std.specs.Prelude.{IfErr};
+    ghost use Rattle.std.specs.Prelude.{MatchOption, [], ◌∷◌, ◌++◌};
     ghost use Rattle.hilti_pool.specs.State.{empty, after_feed, end_of};
+    ghost use Rattle.hilti_pool.specs.Entries.{entries_of};
 
     /// A pool over this body to which nothing happened, where at most `limit` calls may start: 1 to 100,000,000. It
     /// takes no memory.
     pub fn new(alloc: Global, body: &B, limit: u64) -> Pool<B>
         requires low { 1 ≤ limit }
         requires high { limit ≤ 100000000 }
-        ensures { result ≡ empty (B.facts body.now) limit }
+        ensures pool { result ≡ empty (B.facts body.now) limit }
+        ensures entries { entries_of result ≡ [] }
     {
         Pool {
             alloc,
@@ -92,6 +98,8 @@ impl<B: Body> Pool<B> {
     pub fn feed(&mut self, call: Call) -> Result<(), (Call, NoMemory)>
         requires { B.sound self.old.about call }
         ensures ok { OnOk result (self.new ≡ after_feed call self.old) }
+        ensures entries { OnOk result
+            (entries_of self.new ≡ entries_of self.old ++ Entry.Feed call ∷ []) }
         ensures err { IfErr result (λ back. (back.0 ≡ call) × (self.new ≡ self.old)) }
     {
         let admitted = admit(
@@ -112,7 +120,11 @@ impl<B: Body> Pool<B> {
 
     /// Marks the feed as ended, behind the events so far; a second call changes nothing. It takes no memory.
     pub fn end_feed(&mut self)
-        ensures { self.new ≡ record self.old { ended = end_of self.old.ended self.old.journal } }
+        ensures pool { self.new
+            ≡ record self.old { ended = end_of self.old.ended self.old.journal } }
+        ensures entries { MatchOption self.old.ended
+            (entries_of self.new ≡ entries_of self.old ++ Entry.FeedEnd ∷ [])
+            (λ _. entries_of self.new ≡ entries_of self.old) }
     {
         if self.ended.is_none() {
             self.ended = Some(self.journal.len() as u64);
@@ -152,7 +164,7 @@ fn admit<T: Drop>(
 }
 
 /// Adds an event to a journal that has room for it.
-fn note(journal: &mut Vec<Event>, event: Event)
+pub(crate) fn note(journal: &mut Vec<Event>, event: Event)
     requires { vec_len journal.old + 1 ≤ vec_capacity journal.old }
     ensures { journal.new.items ≡ journal.old.items ++ event ∷ [] }
 {

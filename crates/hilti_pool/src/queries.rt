@@ -1,13 +1,14 @@
 use crate::pool::Pool;
-use hilti_base::ThreadId;
+use hilti_base::{Blob, ThreadId};
 use hilti_core::{Body, Event};
 use hilti_tree::Calls;
 
 impl<B: Body> Pool<B> {
-    ghost use Rattle.std.specs.Prelude.{◌≡◌, length};
+    ghost use Rattle.std.specs.Prelude.{◌≡◌, length, MatchOption};
     ghost use Rattle.std.specs.Option.{option_map};
     ghost use Rattle.hilti_pool.specs.State.{InCore};
     ghost use Rattle.hilti_pool.specs.Readiness.{IsFirst, HasWaiting};
+    ghost use Rattle.hilti_pool.specs.Roll.{HasThreads, IsLogAt, EndsBy};
 
     /// The thread that goes on where one worker runs all: the suspended one of least number, else the one whose waiting
     /// call was posted first; `None` exactly where none is suspended and nothing waits. It takes no memory.
@@ -66,5 +67,21 @@ impl<B: Body> Pool<B> {
         ensures { InCore B.effect self.now (λ c. HasWaiting c result) }
     {
         self.hall.mail.len() as u64
+    }
+
+    /// How many threads ran: those that started a call.
+    pub fn threads(&self) -> u64
+        ensures { InCore B.effect self.now (HasThreads result) }
+    {
+        self.hall.roll.len() as u64
+    }
+
+    /// Of the threads that ran, by rising number, the one at this place, with how many calls it started and its lines;
+    /// `None` exactly past the last.
+    pub fn log(&self, place: u64) -> Option<(ThreadId, u64, &[Blob])>
+        ensures { InCore B.effect self.now (λ c. MatchOption result (EndsBy place c)
+            (λ log. IsLogAt place log.0.n log.1 log.2.now c)) }
+    {
+        self.hall.log(place as usize)
     }
 }

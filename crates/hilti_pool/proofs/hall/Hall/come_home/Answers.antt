@@ -8,5 +8,6 @@ returns g c = record {
   seats = c.arrive.ensures.seats;
   mail = c.arrive.ensures.mail;
   resting = c.arrive.ensures.resting;
+  roll = c.arrive.ensures.roll;
   outs = filter_same _ _ _ (λ x b f' k. search rules) _ _ c.retain.ensures.filtered ∙ ap (λ v. filter (λ away. not (away.worker == c.args.worker)) v.items) c.arrive.ensures.outs;
 }

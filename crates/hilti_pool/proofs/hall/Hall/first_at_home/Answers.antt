@@ -1,4 +1,4 @@
-use Rattle.std.proofs.Common.{◌≡◌, ap, sym, ◌∙◌, arith}
+use Rattle.std.proofs.Common.{arith}
 use Rattle.hilti_pool.specs.Hall.{face, IsAtHome}
 use Rattle.hilti_pool.proofs.Items.{all_more}
 use Rattle.hilti_pool.proofs.hall.Hall.first_at_home.Goals as goal
