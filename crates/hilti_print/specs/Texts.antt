@@ -1,6 +1,7 @@
 -- The texts of numbers, times and bytes.
 use Rattle.std.specs.Prelude.{ℕ, ◌+◌, ◌-◌, ◌/◌, ◌%◌, ◌==◌, ◌||◌, List, [], ◌∷◌, ◌++◌, length}
 use Rattle.std.specs.Prelude.{replicate, nat_lt, codes, if◌then◌else◌}
+use Rattle.std.specs.Char.{digit_char}
 use Rattle.std.specs.Fmt.{decimal}
 use Rattle.std.specs.List.{flat_map}
 
@@ -12,17 +13,13 @@ nine_digits_of n = replicate (9 - length (decimal n)) 48 ++ decimal n
 unfoldable pub moment_text : ℕ → List ℕ
 moment_text nanos = decimal (nanos / 1000000000) ++ codes "." ++ nine_digits_of (nanos % 1000000000)
 
--- 0 to 9, then a to f
-abbrev pub hex_digit_of : ℕ → ℕ
-hex_digit_of value = if nat_lt value 10 then 48 + value else 97 + (value - 10)
-
 -- quotes and backslashes behind a backslash, other printable bytes of ASCII as they are, the rest
 -- as two hexadecimal digits
 unfoldable pub byte_text : ℕ → List ℕ
 byte_text byte =
     if byte == 34 || byte == 92 then 92 ∷ byte ∷ []
     else (if nat_lt byte 32 || nat_lt 126 byte then codes "\\x"
-    ++ hex_digit_of (byte / 16) ∷ hex_digit_of (byte % 16) ∷ []
+    ++ digit_char (byte / 16) ∷ digit_char (byte % 16) ∷ []
     else byte ∷ [])
 
 abbrev pub escaped_text : List ℕ → List ℕ

@@ -2,10 +2,13 @@
 //! alone; `out` is then only dropped.
 #![tactic(auto)]
 
+mod addresses;
+mod shapes;
 #[cfg(test)]
 mod tests;
 mod text;
 mod value;
 
+pub use addresses::{address, net, port};
 pub use text::{escaped, moment, number};
 pub use value::tree;

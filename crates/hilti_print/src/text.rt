@@ -1,5 +1,6 @@
 ghost use Rattle.std.specs.Prelude.{◌≡◌, ◌++◌, ◌<◌, OnOk, decimal};
-ghost use Rattle.hilti_print.specs.Texts.{moment_text, escaped_text, byte_text, hex_digit_of};
+ghost use Rattle.std.specs.Char.{digit_char};
+ghost use Rattle.hilti_print.specs.Texts.{moment_text, escaped_text, byte_text};
 ghost use Rattle.hilti_print.specs.Texts.{nine_digits_of};
 
 use hilti_base::{Blob, NoMemory};
@@ -51,9 +52,10 @@ fn escaped_byte(out: &mut Blob, byte: u8) -> Result<(), NoMemory>
     }
 }
 
-fn hex_digit(value: u8) -> u8
+/// The digit of a value below 16, in lower case.
+pub fn hex_digit(value: u8) -> u8
     requires { value < 16 }
-    ensures { result ≡ hex_digit_of value }
+    ensures { result ≡ digit_char value }
 {
     if value < 10 {
         b'0' + value

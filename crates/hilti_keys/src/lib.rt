@@ -1,0 +1,11 @@
+//! Value trees as keys: their order, and their hash. Nothing here takes memory.
+#![tactic(auto)]
+
+mod hashes;
+pub mod laws;
+mod orders;
+#[cfg(test)]
+mod tests;
+
+pub use hashes::{hash, hash_bytes};
+pub use orders::order;
