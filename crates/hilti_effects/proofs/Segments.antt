@@ -31,7 +31,7 @@ use Rattle.hilti_effects.specs.Raising.{raised, as_action}
 use Rattle.hilti_effects.specs.Acting.{act, act_if, act_on, on_struct, answers, gives, prints}
 use Rattle.hilti_effects.specs.Acting.{row_at, language, fields_of, text_of}
 use Rattle.hilti_effects.specs.Operands.{value_at, values_at}
-use Rattle.hilti_effects.specs.Printing.{printed_trees, printed_line}
+use Rattle.hilti_effects.specs.Printing.{shown, printed_line}
 use Rattle.hilti_heap_ops.specs.Meaning.{struct_new, struct_get, struct_set, struct_unset}
 use Rattle.hilti_heap_ops.specs.Meaning.{struct_is_set, callable_bind}
 use Rattle.hilti_scalar_ops.specs.Computing.{unary_of, binary_of}
@@ -93,7 +93,7 @@ left-row program p slots st (rows.Binary op t a b) =
 left-row program p slots st (rows.Select t c a b) = tt
 left-row program p slots st (rows.IsNull t a) = tt
 left-row program p slots st (rows.Print items) =
-    left-print program p slots st (printed_line (printed_trees slots st.globals items))
+    left-print program p slots st (printed_line program.types (shown slots st.globals items))
 left-row program p slots st rows.Yield = (refl, tt)
 left-row program p slots st (rows.Call f arguments t) = tt
 left-row program p slots st (rows.Bind t f arguments) =

@@ -41,7 +41,7 @@ use Rattle.hilti_effects.specs.State.{State, Does, GoesBack, Meaning}
 use Rattle.hilti_effects.specs.Operands.{value_at, values_at, slots_with, globals_with}
 use Rattle.hilti_effects.specs.Operands.{slots_taking, globals_taking}
 use Rattle.hilti_effects.specs.Raising.{raised, as_action, to_block}
-use Rattle.hilti_effects.specs.Printing.{printed_trees, printed_line}
+use Rattle.hilti_effects.specs.Printing.{shown, printed_line}
 
 -- where a function goes on
 
@@ -142,7 +142,7 @@ act_on parts p slots st (rows.Select t c a b) =
 act_on parts p slots st (rows.IsNull t a) =
     assigns p slots st t (values.Bool (is_null (value_at slots st.globals a)))
 act_on parts p slots st (rows.Print items) =
-    prints parts p slots st (printed_line (printed_trees slots st.globals items))
+    prints parts p slots st (printed_line parts.types (shown slots st.globals items))
 act_on parts p slots st rows.Yield =
     Go (Cut (record { «end» = Yielded; state = st; place = Some (next p) }) ∷ [])
     (at (next p) slots) st

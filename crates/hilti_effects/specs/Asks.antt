@@ -8,7 +8,6 @@ use Rattle.hilti_parts.specs.declared.parts.Function.{Function}
 use Rattle.hilti_parts.specs.declared.parts.Parts.{Parts}
 use Rattle.hilti_parts.specs.declared.parts.Variable.{Variable}
 use Rattle.hilti_parts.specs.declared.parts.Variable.TheVariants as variables
-use Rattle.hilti_print.specs.Trees.{HasText}
 use Rattle.hilti_heap.specs.Kept.{Kept}
 use Rattle.hilti_heap_ops.specs.Shapes.{HasField}
 use Rattle.hilti_rows.specs.declared.row.Printed.{Printed}
@@ -24,7 +23,6 @@ use Rattle.hilti_stack.specs.declared.head.Position.{Position}
 use Rattle.hilti_values.specs.declared.value.Value.{Value}
 use Rattle.hilti_values.specs.declared.value.Value.TheVariants as values
 use Rattle.hilti_effects.specs.Operands.{found, value_at}
-use Rattle.hilti_effects.specs.Printing.{tree_of}
 use Rattle.hilti_effects.specs.Acting.{row_at}
 
 -- a variable that is there
@@ -66,10 +64,8 @@ pub record AsksSelect (slots globals : List Value) (t : Variable) (test a b : So
   pub second : Gets slots globals Any b
   pub target : IsThere slots globals t
 
--- a value with a text, by its type
 abbrev pub AsksPrinted : List Value → List Value → Printed → Type 0
-AsksPrinted slots globals item =
-    Gets slots globals (λ value. HasText item.kind (tree_of value)) item.value
+AsksPrinted slots globals item = Gets slots globals Any item.value
 
 pub record AsksCall (parts : Parts) (slots globals : List Value) (f : ℕ) (arguments : List Source)
     : Type 0 where

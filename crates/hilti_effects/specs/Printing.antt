@@ -6,6 +6,8 @@ use Rattle.hilti_base.specs.declared.refusal.Raise.TheVariants.{ValueError}
 use Rattle.hilti_print.specs.Trees.{tree_text}
 use Rattle.hilti_rows.specs.declared.row.Printed.{Printed}
 use Rattle.hilti_tree.specs.Sizes.{forest_size}
+use Rattle.hilti_types.specs.declared.declared.Declared.{Declared}
+use Rattle.hilti_types.specs.declared.value_type.ValueType.{ValueType}
 use Rattle.hilti_tree.specs.declared.tree.Tree.{Tree}
 use Rattle.hilti_tree.specs.declared.tree.Tree.TheVariants as trees
 use Rattle.hilti_values.specs.declared.value.Value.{Value}
@@ -31,13 +33,17 @@ tree_step _ = trees.Null
 abbrev pub tree_of : Value → Tree
 tree_of = fold-Value Tree tree_step
 
--- the trees of what is printed
-abbrev pub printed_trees : List Value → List Value → List Printed → List Tree
-printed_trees slots globals items = map (λ (item : Printed).
-    tree_of (value_at slots globals item.value)) items
+-- what is printed: a tree, and its type
+pub record Shown : Type 0 where
+  pub kind : ValueType
+  pub tree : Tree
 
--- their texts, with one space between, where they aren't too large
-abbrev pub printed_line : List Tree → Result (List ℕ) Raise
-printed_line shown =
-    if nat_lt 1000000 (forest_size shown) then Err ValueError
-    else Ok (join_by tree_text (codes " ") shown)
+abbrev pub shown : List Value → List Value → List Printed → List Shown
+shown slots globals items = map (λ (item : Printed).
+    record { kind = item.kind; tree = tree_of (value_at slots globals item.value) }) items
+
+-- the texts, with one space between, where the trees aren't too large
+abbrev pub printed_line : List Declared → List Shown → Result (List ℕ) Raise
+printed_line types all =
+    if nat_lt 1000000 (forest_size (map (λ (one : Shown). one.tree) all)) then Err ValueError
+    else Ok (join_by (λ (one : Shown). tree_text types one.kind one.tree) (codes " ") all)
