@@ -38,7 +38,8 @@ fn writes_addresses(rt: HostRuntime) -> Result<(), Fail> {
     net(&mut out, 0x2001_0db8_0000_0000_0000_0000_0000_0000, 32)?;
     out.append(b" ")?;
     port(&mut out, 53, true)?;
-    let text = b"10.0.0.1 2001:db8::1:0:0:1 :: 1:0:2:3:4:5:6:7 fe80:: 10.0.0.0/8 2001:db8::/32 53/udp";
+    let text =
+        b"10.0.0.1 2001:db8::1:0:0:1 :: 1:0:2:3:4:5:6:7 fe80:: 10.0.0.0/8 2001:db8::/32 53/udp";
     assert_eq!(rt; out.bytes(), text.as_slice());
     Ok(())
 }
@@ -81,7 +82,12 @@ fn writes_values(rt: HostRuntime) -> Result<(), Fail> {
     let mut trees = Forest::new(alloc);
     trees.push(Tree::Pick(0))?;
     trees.push(Tree::Pick(7))?;
-    tree(&mut out, &Tree::Tuple(trees), &ValueType::Tuple { parts }, &types)?;
+    tree(
+        &mut out,
+        &Tree::Tuple(trees),
+        &ValueType::Tuple { parts },
+        &types,
+    )?;
     let mut keys = Forest::new(alloc);
     keys.push(Tree::Bool(false))?;
     keys.push(Tree::Bool(true))?;

@@ -4,8 +4,10 @@ ghost use Rattle.hilti_print.specs.Trees.{field_text, item_text, listed, part_te
 ghost use Rattle.hilti_print.specs.Trees.{before, named, quoted_text, truth_text, tree_text, value_text};
 
 use crate::addresses::{address, net, port};
-use crate::shapes::{at_place, item_shape, key_shape, kind_at, members_of, name_at};
-use crate::shapes::{part_shapes, value_shape, words_of};
+use crate::shapes::{
+    at_place, item_shape, key_shape, kind_at, members_of, name_at, part_shapes, value_shape,
+    words_of,
+};
 use crate::text::{escaped, moment, number};
 use hilti_base::{Blob, NoMemory};
 use hilti_tree::{Forest, Tree};
@@ -59,7 +61,11 @@ fn value(
         Tree::Net(addr, len) => net(out, *addr, *len),
         Tree::Port(n, is_udp) => port(out, *n, *is_udp),
         Tree::Time(nanos) | Tree::Span(nanos) => moment(out, *nanos),
-        Tree::Pick(n) => name(out, at_place(words_of(shape, types), *n as usize), u64::from(*n)),
+        Tree::Pick(n) => name(
+            out,
+            at_place(words_of(shape, types), *n as usize),
+            u64::from(*n),
+        ),
         Tree::Null => out.append(b"Null"),
         Tree::Unset => out.append(b"unset"),
         Tree::Tuple(trees) => {

@@ -1,4 +1,4 @@
-use Rattle.std.proofs.Common.{◌≡◌, ◌≤◌, length, decimal, arith, rules}
+use Rattle.std.proofs.Common.{length, arith, rules}
 use Rattle.std.proofs.lemmas.Grind.{common_steps}
 use Rattle.hilti_print.proofs.Digits.{nine_fit, zeros_left}
 use Rattle.hilti_print.proofs.text.nine_digits.Goals as goal
