@@ -17,7 +17,7 @@ use Rattle.hilti_pool.specs.Work.{IsJob}
 use Rattle.hilti_pool.specs.Taking.{IsIdle, IsAtLimit, IsFinished}
 use Rattle.hilti_pool.specs.Stands.{HallStands, StandsFor}
 use Rattle.hilti_pool.proofs.Moves.{resumed, begins_call, idle_home}
-use Rattle.hilti_pool.proofs.Causes.{none_ready, some_out, none_out, some_mail, no_mail, rests_in}
+use Rattle.hilti_pool.proofs.Causes.{at_limit as all_started, none_ready, some_out, none_out, some_mail, no_mail, rests_in}
 
 pub none_if : {A : Type 0} (o : Option A) → is_some o ≡ false → o ≡ None
 none_if None e = refl
@@ -71,7 +71,7 @@ module _ {V : Type 0} (effect : Effect) (sound : Call → Type 0) (runs : V → 
   pub at_limit : (fed : List Call) (limit : ℕ) (c : Core) (hall : Hall V) (may : Bool) → HallStands runs c hall → IsKept fed limit c → (length c.started < limit → may ≡ true) → NoneMayGo may hall →
       hall.outs.items ≡ [] → ¬ (hall.mail.items ≡ []) → IsAtLimit limit c
   at_limit fed limit c hall may h kept allowed none out mail =
-      record { none_ready = none_ready runs c hall may limit h allowed none; none_out = none_out runs fed limit c hall h kept out; waits = some_mail runs c hall h mail }
+      record { none_ready = none_ready runs c hall may limit h allowed none; none_out = none_out runs fed limit c hall h kept out; waits = some_mail runs c hall h mail; all_started = all_started runs fed limit c kept (none_ready runs c hall may limit h allowed none) (none_out runs fed limit c hall h kept out) (some_mail runs c hall h mail) }
 
   pub finished : (fed : List Call) (limit : ℕ) (c : Core) (hall : Hall V) (may : Bool) (ended : Option ℕ) → HallStands runs c hall → IsKept fed limit c → (length c.started < limit → may ≡ true) → NoneMayGo may hall →
       hall.outs.items ≡ [] → hall.mail.items ≡ [] → IsSome ended → IsFinished limit ended c

@@ -1,5 +1,5 @@
 -- What a worker that asks for work is told, and why.
-use Rattle.std.specs.Prelude.{ℕ, true, false, Option, None, IsSome, ◌≡◌, ◌⊎◌}
+use Rattle.std.specs.Prelude.{ℕ, true, false, length, Option, None, IsSome, ◌≡◌, ◌⊎◌}
 use Rattle.hilti_core.specs.Core.{Core}
 use Rattle.hilti_pool.specs.declared.job.Job.{Job as JobOf}
 use Rattle.hilti_pool.specs.declared.job.Taken.{Taken}
@@ -12,11 +12,12 @@ pub record IsIdle (limit : ℕ) (ended : Option ℕ) (c : Core) : Type 0 where
   pub none_ready : NoneReady limit c
   pub may_come : SomeOut c ⊎ (NoMail c × (ended ≡ None))
 
--- no thread is ready or out, and a call waits, so as many calls as may started
+-- no thread is ready or out, and a call waits: as many calls as may started
 pub record IsAtLimit (limit : ℕ) (c : Core) : Type 0 where
   pub none_ready : NoneReady limit c
   pub none_out : NoneOut c
   pub waits : SomeMail c
+  pub all_started : length c.started ≡ limit
 
 -- no thread is ready or out, nothing waits, and the feed ended
 pub record IsFinished (limit : ℕ) (ended : Option ℕ) (c : Core) : Type 0 where
