@@ -9,7 +9,11 @@ use hilti_heap::{Heap, Object, OpFault};
 use hilti_values::{Value, Values};
 
 /// `callable.bind`: a new callable, which holds what its arguments hold. Others hold it too.
-pub fn callable_bind(heap: &mut Heap, function: FnId, arguments: Values) -> Result<Option<Value>, OpFault>
+pub fn callable_bind(
+    heap: &mut Heap,
+    function: FnId,
+    arguments: Values,
+) -> Result<Option<Value>, OpFault>
     requires { Covers heap.old (λ s. all_held s arguments) }
     ensures { Meets (meaning.callable_bind function.n arguments) result heap.old heap.new }
 {

@@ -27,7 +27,12 @@ pub fn new_struct(alloc: Global, heap: &mut Heap, fields: usize) -> Result<Optio
 
 /// `struct.get`: the value of a field, which the result holds besides. NullReference comes exactly where the struct is
 /// Null, and UnsetField exactly where the field is unset.
-pub fn struct_get(alloc: Global, heap: &mut Heap, object: &Value, at: usize) -> Result<Option<Value>, OpFault>
+pub fn struct_get(
+    alloc: Global,
+    heap: &mut Heap,
+    object: &Value,
+    at: usize,
+) -> Result<Option<Value>, OpFault>
     requires kind { HasField heap.old at object.now }
     requires held { AreHeld heap.old object.now }
     ensures { Meets (meaning.struct_get object.now at) result heap.old heap.new }
@@ -45,7 +50,12 @@ pub fn struct_get(alloc: Global, heap: &mut Heap, object: &Value, at: usize) -> 
 }
 
 /// The value of a field, which nothing counts yet; `None` where the field is unset.
-fn read_field(alloc: Global, heap: &Heap, to: &Reference, at: usize) -> Result<Option<Value>, NoMemory>
+fn read_field(
+    alloc: Global,
+    heap: &Heap,
+    to: &Reference,
+    at: usize,
+) -> Result<Option<Value>, NoMemory>
     requires { HasFieldAt heap.now at to.now }
     ensures { IfOk result (λ value. (o : object.Object) → object_at to.now heap.now.cells ≡ Some o →
         field_of at o ≡ value) }
@@ -103,7 +113,13 @@ pub fn struct_set(
     }
 }
 
-fn set(alloc: Global, heap: &mut Heap, to: &Reference, at: usize, item: &Value) -> Result<(), NoMemory>
+fn set(
+    alloc: Global,
+    heap: &mut Heap,
+    to: &Reference,
+    at: usize,
+    item: &Value,
+) -> Result<(), NoMemory>
     requires kind { HasFieldAt heap.old at to.now }
     requires held { AreHeld heap.old item.now }
     ensures { OnOk result (Goes (meaning.struct_set (values.Ref to.now) at item.now) None heap.old heap.new) }
