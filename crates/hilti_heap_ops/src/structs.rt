@@ -122,7 +122,8 @@ fn set(
 ) -> Result<(), NoMemory>
     requires kind { HasFieldAt heap.old at to.now }
     requires held { AreHeld heap.old item.now }
-    ensures { OnOk result (Goes (meaning.struct_set (values.Ref to.now) at item.now) None heap.old heap.new) }
+    ensures { OnOk result
+        (Goes (meaning.struct_set (values.Ref to.now) at item.now) None heap.old heap.new) }
 {
     let shared = share(alloc, item)?;
     heap.hold_value(&shared)?;
