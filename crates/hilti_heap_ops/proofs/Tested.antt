@@ -1,24 +1,23 @@
 -- A struct that was made on an empty heap.
-use Rattle.std.proofs.Common.{◌≡◌, ℕ, ◌+◌, ◌<◌, ◌≤◌, [], length, replicate, refl, sym, ap, subst, ◌∙◌}
-use Rattle.std.proofs.Common.{Option, Some, None, arith, rules, inl}
+use Rattle.std.proofs.Common.{◌≡◌, ℕ, ◌+◌, ◌<◌, ◌≤◌, List, [], replicate, refl, sym, ap, subst, ◌∙◌}
+use Rattle.std.proofs.Common.{Option, Some, None, arith, inl}
 use Rattle.std.proofs.lemmas.List.{length-replicate}
 use Rattle.hilti_values.specs.declared.value.Value.{Value}
-use Rattle.hilti_values.specs.declared.value.Value.TheVariants.{Ref, rolls-Ref}
+use Rattle.hilti_values.specs.declared.value.Value.TheVariants.{Ref, Int, rolls-Ref, rolls-Int}
 use Rattle.hilti_values.specs.declared.value.Value.TheOpen.{Value-F}
 use Rattle.hilti_values.specs.declared.value.Value.TheFolds.{fold-roll-Value}
 use Rattle.hilti_heap.specs.declared.object.Object.{Object}
 use Rattle.hilti_heap.specs.declared.object.Object.TheVariants.{Struct}
-use Rattle.hilti_heap.specs.Cells.{object_at}
-use Rattle.hilti_heap.specs.Held.{is, held, held_step}
+use Rattle.hilti_heap.specs.Held.{is, held, all_held, held_step}
 use Rattle.hilti_heap.specs.Kept.{Kept, Covers}
 use Rattle.hilti_heap.specs.Stands.{Fits, Goes, GoesTo, IsKept}
-use Rattle.hilti_heap.specs.Stores.{Store, Answer.Done, added}
+use Rattle.hilti_heap.specs.Stores.{Store, added}
 use Rattle.hilti_heap.proofs.Heaping.{with_here}
 use Rattle.hilti_heap.proofs.Keeping.{held_kept}
 use Rattle.hilti_heap.proofs.Places.{is_self}
 use Rattle.hilti_heap.proofs.Standing.{empty_stands, empty_fits, fits_covers}
 use Rattle.hilti_heap_ops.specs.Meaning.{struct_new}
-use Rattle.hilti_heap_ops.specs.Shapes.{HasField, HasFieldAt, HasFieldIn, AreHeld}
+use Rattle.hilti_heap_ops.specs.Shapes.{HasField, HasFieldAt, AreHeld}
 
 -- a reference holds its object
 held_itself : (s : ℕ) → held s (Ref s) ≡ is s s
@@ -82,3 +81,24 @@ module _ (n at : ℕ) (v : Value) (a b : Kept) (empty : a.cells ≡ []) (below :
         field = omega arith;
       } in
       subst (HasField b at) (sym named) there
+
+  -- a value that holds nothing is held by others
+  pub made_plain : (x : Value) → ((s : ℕ) → held s x ≡ 0) → AreHeld b x
+  made_plain x none =
+      let c = fits_covers b (λ s. 0 + held s v) fit in
+      record { each = λ s. let e = c.each s in let z = none s in omega arith }
+
+-- a number holds nothing
+pub number_holds_nothing : (n s : ℕ) → held s (Int n) ≡ 0
+number_holds_nothing n s =
+    ap (held s) (sym (rolls-Int n)) ∙ fold-roll-Value ℕ (held_step s) (Value-F.Int n)
+
+-- no arguments hold anything
+pub none_held : (h : Kept) (values : List Value) → h.cells ≡ [] → values ≡ []
+    → Covers h (λ s. all_held s values)
+none_held h values empty none =
+    let c = fits_covers h (λ s. 0) (empty_fits h empty) in
+    record {
+      each = λ s. let e = c.each s in let z = ap (all_held s) none in
+          let d : all_held s [] ≡ 0 = refl in omega arith;
+    }
