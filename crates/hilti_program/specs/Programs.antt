@@ -22,7 +22,8 @@ pub record IsEntryOf (parts : Parts) (asked : Signature) (f : FnId) : Type 0 whe
   pub entry : IsEntry parts asked f.n
 
 -- typed parts, with the entries that they have
-pub record IsProgram (parts : Parts) (at_packet : FnId) (at_init at_done : Option FnId) : Type 0 where
+pub record IsProgram (parts : Parts) (at_packet : FnId)
+    (at_init at_done : Option FnId) : Type 0 where
   pub typed : AreTyped parts
   pub packet : named parts (codes "Main::packet") ≡ Some at_packet
   pub init : named parts (codes "Main::init") ≡ at_init
