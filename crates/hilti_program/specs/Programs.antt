@@ -1,5 +1,5 @@
 -- What a program keeps, and what its numbers and names stand for.
-use Rattle.std.specs.Prelude.{◌≡◌, ℕ, ◌<◌, List, Option, Some, codes, slice_get, IfSome}
+use Rattle.std.specs.Prelude.{◌≡◌, ℕ, ◌<◌, List, Option, Some, codes, length, slice_get, IfSome}
 use Rattle.std.specs.List.{All}
 use Rattle.std.specs.Option.{option_map}
 use Rattle.hilti_base.specs.declared.names.FnId.{FnId}
@@ -7,15 +7,23 @@ use Rattle.hilti_parts.specs.declared.parts.Parts.{Parts}
 use Rattle.hilti_parts.specs.declared.parts.Exception.{Exception}
 use Rattle.hilti_parts.specs.declared.parts.Hook.{Hook}
 use Rattle.hilti_parts.specs.declared.parts.Function.{Function}
+use Rattle.hilti_typing.specs.Context.{Signature}
 use Rattle.hilti_typing.specs.Programs.{AreTyped, function_named, IsTypedFunction, IsBodyOf}
+use Rattle.hilti_typing.specs.Programs.{IsEntry}
 use Rattle.hilti_typing.specs.Programs.{IsShort, IsShortFunction}
 
 -- the first function of a name
 abbrev pub named : Parts → List ℕ → Option FnId
 named parts name = option_map (λ (n : ℕ). record { n = n }) (function_named parts name)
 
+-- an entry of a program: it is there, no body of a hook, and takes and gives just this
+pub record IsEntryOf (parts : Parts) (asked : Signature) (f : FnId) : Type 0 where
+  pub within : f.n < length parts.functions
+  pub entry : IsEntry parts asked f.n
+
 -- typed parts, with the entries that they have
-pub record IsProgram (parts : Parts) (at_packet : FnId) (at_init at_done : Option FnId) : Type 0 where
+pub record IsProgram (parts : Parts) (at_packet : FnId)
+    (at_init at_done : Option FnId) : Type 0 where
   pub typed : AreTyped parts
   pub packet : named parts (codes "Main::packet") ≡ Some at_packet
   pub init : named parts (codes "Main::init") ≡ at_init

@@ -4,5 +4,7 @@
 mod exceptions;
 mod names;
 mod program;
+#[cfg(test)]
+mod tests;
 
 pub use program::Program;

@@ -1,5 +1,6 @@
 //! Functions by their names.
 ghost use Rattle.std.specs.Prelude.{◌≡◌, ◌<◌, ◌^◌, length, position, bytes_eq, IfSome};
+ghost use Rattle.hilti_base.specs.declared.names.FnId.{FnId as Id};
 ghost use Rattle.hilti_parts.specs.declared.parts.Function.{Function as Body};
 ghost use Rattle.hilti_program.specs.Programs.{named as first_named};
 
@@ -19,7 +20,8 @@ fn place_named(functions: &[Function], name: &[u8]) -> Option<usize>
 /// The first function of a name; `None` exactly where there is none.
 pub fn named(parts: &Parts, name: &[u8]) -> Option<FnId>
     requires { length parts.now.functions < 2 ^ 32 }
-    ensures { result ≡ first_named parts.now name.now }
+    ensures is { result ≡ first_named parts.now name.now }
+    ensures within { IfSome result (λ (f : Id). f.n < length parts.now.functions) }
 {
     match place_named(parts.functions.as_slice(), name) {
         Some(at) => Some(FnId { n: at as u32 }),

@@ -1,4 +1,5 @@
-ghost use Rattle.std.specs.Prelude.{◌≡◌, ◌↔◌, ◌<◌, Some, IsTrue, codes, length, slice_get, IsSomeAnd};
+ghost use Rattle.std.specs.Prelude.{◌≡◌, ◌↔◌, ◌<◌, Some, IsTrue, codes, length, slice_get, IfSome, IsSomeAnd};
+ghost use Rattle.hilti_base.specs.declared.names.FnId.{FnId as Id};
 ghost use Rattle.hilti_parts.specs.declared.parts.Function.{Function as Body};
 
 use crate::{exceptions, names};
@@ -43,8 +44,9 @@ impl Model for Program {
 
 impl Program {
     ghost use Rattle.hilti_typing.specs.Exceptions.{IsBelow, ExceptionTree};
-    ghost use Rattle.hilti_typing.specs.Programs.{AreTyped};
-    ghost use Rattle.hilti_program.specs.Programs.{named, IsFunctionOf, IsExceptionOf, IsHookOf};
+    ghost use Rattle.hilti_typing.specs.Programs.{AreTyped, packet_signature, bare_signature};
+    ghost use Rattle.hilti_program.specs.Programs.{named, IsEntryOf, IsFunctionOf, IsExceptionOf};
+    ghost use Rattle.hilti_program.specs.Programs.{IsHookOf};
 
     /// The program of typed parts. It takes no memory.
     pub fn new(parts: Parts) -> Program
@@ -74,30 +76,36 @@ impl Program {
         &self.parts
     }
 
-    /// The function that each packet is handed to: `Main::packet`.
+    /// The function that each packet is handed to: `Main::packet`. It takes a time and bytes, and is void.
     pub fn packet(&self) -> FnId
-        ensures { Some result ≡ named self.now (codes "Main::packet") }
+        ensures is { Some result ≡ named self.now (codes "Main::packet") }
+        ensures entry { IsEntryOf self.now packet_signature result }
     {
         self.packet
     }
 
-    /// The function that runs first on each virtual thread: `Main::init`; `None` exactly where there is none.
+    /// The function that runs first on each virtual thread: `Main::init`, void and without parameters; `None`
+    /// exactly where there is none.
     pub fn init(&self) -> Option<FnId>
-        ensures { result ≡ named self.now (codes "Main::init") }
+        ensures is { result ≡ named self.now (codes "Main::init") }
+        ensures entry { IfSome result (IsEntryOf self.now bare_signature) }
     {
         self.init
     }
 
-    /// The function that runs behind the last packet: `Main::done`; `None` exactly where there is none.
+    /// The function that runs behind the last packet: `Main::done`, void and without parameters; `None`
+    /// exactly where there is none.
     pub fn done(&self) -> Option<FnId>
-        ensures { result ≡ named self.now (codes "Main::done") }
+        ensures is { result ≡ named self.now (codes "Main::done") }
+        ensures entry { IfSome result (IsEntryOf self.now bare_signature) }
     {
         self.done
     }
 
     /// The first function of a name, as `Module::name`; `None` exactly where there is none.
     pub fn find(&self, name: &[u8]) -> Option<FnId>
-        ensures { result ≡ named self.now name.now }
+        ensures is { result ≡ named self.now name.now }
+        ensures within { IfSome result (λ (f : Id). f.n < length self.now.functions) }
     {
         names::named(&self.parts, name)
     }

@@ -38,8 +38,10 @@ pub fn handler(program: &Program, f: FnId, block: u32, exception: u32) -> Option
 /// The bodies of a hook, in the order of running. Each takes what the hook takes.
 pub fn bodies(program: &Program, hook: u32) -> &[FnId]
     requires { hook < length program.now.hooks }
-    ensures { IsSomeAnd (slice_get program.now.hooks hook) (λ (declared : Declared).
+    ensures is { IsSomeAnd (slice_get program.now.hooks hook) (λ (declared : Declared).
         result.now ≡ declared.bodies) }
+    ensures typed { IsSomeAnd (slice_get program.now.hooks hook) (λ (declared : Declared).
+        All (IsBodyOf program.now declared) result.now) }
 {
     program.hook(hook).bodies.as_slice()
 }

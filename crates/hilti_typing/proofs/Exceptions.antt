@@ -1,7 +1,7 @@
 -- The exceptions of a program make a tree below `Exception`.
 use Rattle.std.proofs.Common.{◌≡◌, ℕ, zero, suc, ◌<◌, ◌≤◌, List, [], ◌∷◌, refl, sym, ap, ◌∙◌, length, take, slice_get, arith, ◌⊎◌, inl, inr}
-use Rattle.std.proofs.Common.{Option, Some, None, IsSomeAnd, is_some}
-use Rattle.std.proofs.lemmas.Bool.{false≢true, cases_lt}
+use Rattle.std.proofs.Common.{Option, Some, None, IsSomeAnd}
+use Rattle.std.proofs.lemmas.Bool.{cases_lt}
 use Rattle.std.proofs.lemmas.Option.{slice_get_within}
 use Rattle.std.specs.Option.{option_and_then}
 use Rattle.hilti_base.specs.declared.refusal.Raise.{Raise}

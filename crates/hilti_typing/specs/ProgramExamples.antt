@@ -1,6 +1,5 @@
 -- Parts that are typed, and parts that aren't.
 use Rattle.std.specs.Prelude.{ℕ, false, List, [], ◌∷◌, ◌++◌, Some, None, codes}
-use Rattle.hilti_base.specs.declared.names.FnId.{FnId}
 use Rattle.hilti_types.specs.declared.op.Op.{Op}
 use Rattle.hilti_types.specs.declared.op.Op.TheVariants as ops
 use Rattle.hilti_types.specs.declared.value_type.ValueType.{ValueType}

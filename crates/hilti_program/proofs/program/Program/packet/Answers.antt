@@ -1,0 +1,6 @@
+use Rattle.hilti_program.proofs.Entries.{packet_is}
+use Rattle.hilti_program.proofs.program.Program.packet.Goals as goal
+
+pub returns-clause-entry : goal.returns-clause-entry
+returns-clause-entry c =
+    packet_is c.self.inside.parts c.args.self.now c.self.inside.packet c.self.inside.init c.self.inside.done c.self.invariant c.self.view_is
