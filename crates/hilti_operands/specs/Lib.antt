@@ -1,0 +1,7 @@
+pub mod Answers
+pub mod Groups
+pub mod Lines
+pub mod Names
+pub mod Operands
+pub mod Seen
+pub mod Values
