@@ -1,5 +1,5 @@
 -- What operands in parentheses stand for.
-use Rattle.std.specs.Prelude.{ℕ, nat_eq, nat_le, Bool, ◌&&◌, cond, List, [], ◌∷◌, length, drop}
+use Rattle.std.specs.Prelude.{ℕ, nat_eq, nat_le, Bool, false, ◌&&◌, cond, List, [], ◌∷◌, length, drop}
 use Rattle.std.specs.Prelude.{slice_get, Option, Some, None, Result, Ok, Err}
 use Rattle.std.specs.Option.{option_map}
 use Rattle.hilti_base.specs.declared.names.Place.{Place}
@@ -18,17 +18,17 @@ use Rattle.hilti_parts.specs.declared.parts.Operand.TheVariants as operands
 use Rattle.hilti_typing.specs.Context.{Signature, Known}
 use Rattle.hilti_typing.specs.Fits.{known_signature, known_rule}
 use Rattle.hilti_typing.specs.Types.{asked_for, is_int, parts_of}
+use Rattle.hilti_operands.specs.declared.own.Untyped.{Untyped}
 use Rattle.hilti_operands.specs.Answers.{then_read, refused, if_passes}
 use Rattle.hilti_operands.specs.Names.{known_parts}
-use Rattle.hilti_operands.specs.Seen.{LineSeen}
-use Rattle.hilti_operands.specs.Values.{Untyped, simple_start, wrong, read_asked, read_own}
-use Rattle.hilti_operands.specs.Values.{is_passing}
+use Rattle.hilti_operands.specs.Seen.{BodySeen, LineSeen}
+use Rattle.hilti_operands.specs.Values.{simple_start, wrong, read_asked, read_own}
 
 -- an argument that is sent to another thread: where its parameter isn't of a sendable type it is
 -- refused with code 35, behind its own faults
 abbrev pub is_sent : List Declared → Option ValueType → Bool
 is_sent table (Some kind) = is_sendable_in table kind
-is_sent table None = Bool.false
+is_sent table None = false
 
 abbrev pub read_sent : LineSeen → Option ValueType → Simple → Result Operand Refusal
 read_sent line kind simple =
@@ -48,15 +48,15 @@ abbrev pub read_part : LineSeen → Option ValueType → Simple → Result Opera
 read_part line part simple = read_own line.body (untyped_part line part) simple
 
 -- a part of a rule: a value, or `*`
-abbrev pub read_match : LineSeen → Option ValueType → Simple → Result Operand Refusal
-read_match line kind (simples.Any place) = Ok operands.Star
-read_match line kind simple = read_asked line.body kind simple
+abbrev pub read_match : BodySeen → Option ValueType → Simple → Result Operand Refusal
+read_match body kind (simples.Any place) = Ok operands.Star
+read_match body kind simple = read_asked body kind simple
 
 -- one of the operands of a group of a kind, where the type that belongs to its place is this
 abbrev pub read_member : LineSeen → Kind → Option ValueType → Simple → Result Operand Refusal
 read_member line kinds.Sent kind simple = read_sent line kind simple
 read_member line kinds.Parts kind simple = read_part line kind simple
-read_member line kinds.Rule kind simple = read_match line kind simple
+read_member line kinds.Rule kind simple = read_match line.body kind simple
 read_member line kinds.Query kind simple = read_asked line.body (option_map asked_for kind) simple
 read_member line _ kind simple = read_asked line.body kind simple
 

@@ -2,7 +2,6 @@
 use Rattle.std.specs.Prelude.{ℕ, ◌+◌, nat_lt, Bool, true, false, not, cond, List, [], length, codes}
 use Rattle.std.specs.Prelude.{bytes_eq, slice_get, Option, Some, None, is_some, ok_or, Result, Ok, Err}
 use Rattle.std.specs.List.{position}
-use Rattle.std.specs.Option.{option_map, option_and_then}
 use Rattle.hilti_base.specs.declared.names.Place.{Place}
 use Rattle.hilti_base.specs.declared.refusal.Refusal.{Refusal}
 use Rattle.hilti_base.specs.declared.refusal.Refusal.TheVariants.{At}
@@ -14,7 +13,7 @@ use Rattle.hilti_types.specs.declared.value_type.Inner.TheVariants as inners
 use Rattle.hilti_types.specs.declared.value_type.ValueType.{ValueType}
 use Rattle.hilti_types.specs.declared.value_type.ValueType.TheVariants as types
 use Rattle.hilti_tree.specs.declared.tree.Tree.TheVariants as trees
-use Rattle.hilti_module.specs.declared.types.Name.{Name}
+use Rattle.hilti_module.specs.declared.types.Number.{Number}
 use Rattle.hilti_module.specs.declared.types.Word.{Word}
 use Rattle.hilti_module.specs.declared.module.Literal.TheVariants as literals
 use Rattle.hilti_module.specs.declared.module.Simple.{Simple}
@@ -36,11 +35,17 @@ use Rattle.hilti_operands.specs.Answers.{refused, if_passes}
 use Rattle.hilti_operands.specs.Seen.{BodySeen}
 use Rattle.hilti_operands.specs.Values.{wrong}
 
--- a name that means something of a kind
+-- what a name means, and nothing where the operand is no name
+abbrev pub meaning_of : BodySeen → Simple → Meaning
+meaning_of body (simples.Name name) = body.mean name
+meaning_of body _ = means.Nothing
+
+-- an operand that names something of a kind
+abbrev pub named : BodySeen → Option Operand → Simple → Result Operand Refusal
+named body meant simple = ok_or meant (wrong body simple)
+
 abbrev pub read_named : BodySeen → (Meaning → Option Operand) → Simple → Result Operand Refusal
-read_named body meant (simples.Name name) =
-    ok_or (meant (body.mean name)) (wrong body (simples.Name name))
-read_named body meant simple = Err (wrong body simple)
+read_named body meant simple = named body (meant (meaning_of body simple)) simple
 
 -- a function, which may have to be void
 abbrev pub may_be : Callee → Option ValueType → Bool
@@ -109,15 +114,22 @@ read_label body (simples.Label place name) =
     ok_or (block_at body.blocks (body.label name.bytes)) (At name.place 21)
 read_label body simple = Err (wrong body simple)
 
--- a word that stands for itself: one word is refused with code 30 alone
+-- an operand of one word; such a word is refused with code 30 alone
+abbrev pub alone : Word → Option Word → Option Word
+alone first None = Some first
+alone first (Some second) = None
+
+abbrev pub one_word : Simple → Option Word
+one_word (simples.Name name) = alone name.first name.second
+one_word _ = None
+
 abbrev pub word_meant :
-    BodySeen → (List ℕ → Option Operand) → Name → Option Word → Result Operand Refusal
-word_meant body meant name None = ok_or (meant name.first.bytes) (At name.first.place 30)
-word_meant body meant name (Some second) = Err (wrong body (simples.Name name))
+    BodySeen → (List ℕ → Option Operand) → Option Word → Simple → Result Operand Refusal
+word_meant body meant (Some word) simple = ok_or (meant word.bytes) (At word.place 30)
+word_meant body meant None simple = Err (wrong body simple)
 
 abbrev pub read_word : BodySeen → (List ℕ → Option Operand) → Simple → Result Operand Refusal
-read_word body meant (simples.Name name) = word_meant body meant name name.second
-read_word body meant simple = Err (wrong body simple)
+read_word body meant simple = word_meant body meant (one_word simple) simple
 
 -- `Create` or `Access`
 abbrev pub mode_meant : List ℕ → Option Operand
@@ -130,10 +142,12 @@ abbrev pub members : List Declared → Option Inner → List Member
 members table None = []
 members table (Some object) = fields_of table object
 
+abbrev pub field_at : Option ℕ → Option Operand
+field_at None = None
+field_at (Some n) = Some (operands.Field n)
+
 abbrev pub field_meant : List Member → List ℕ → Option Operand
-field_meant fields word =
-    option_map (λ (n : ℕ). operands.Field n)
-    (position (λ (m : Member). bytes_eq m.name word) fields)
+field_meant fields word = field_at (position (λ (m : Member). bytes_eq m.name word) fields)
 
 abbrev pub read_field : BodySeen → Known → Simple → Result Operand Refusal
 read_field body known simple =
@@ -146,8 +160,7 @@ read_fields (Some fields) = fields
 
 abbrev pub overlay_field_meant : List OverlayField → List ℕ → Option Operand
 overlay_field_meant fields word =
-    option_map (λ (n : ℕ). operands.Field n)
-    (position (λ (f : OverlayField). bytes_eq f.name word) fields)
+    field_at (position (λ (f : OverlayField). bytes_eq f.name word) fields)
 
 abbrev pub read_overlay_field : BodySeen → Known → Simple → Result Operand Refusal
 read_overlay_field body known simple =
@@ -159,8 +172,12 @@ abbrev pub known_parts : Option ValueType → List ValueType
 known_parts None = []
 known_parts (Some kind) = parts_of kind
 
+abbrev pub number_below : Number → ℕ → Result Operand Refusal
+number_below number count =
+    if_passes (nat_lt number.value count)
+    (operands.Literal (types.Int 64) (trees.Int number.value)) (At number.place 36)
+
 abbrev pub read_index : BodySeen → Known → Simple → Result Operand Refusal
 read_index body known (simples.Literal (literals.Number number)) =
-    if_passes (nat_lt number.value (length (known_parts (known_type known))))
-    (operands.Literal (types.Int 64) (trees.Int number.value)) (At number.place 36)
+    number_below number (length (known_parts (known_type known)))
 read_index body known simple = Err (wrong body simple)

@@ -35,6 +35,7 @@ use Rattle.hilti_typing.specs.Fits.{known_type, known_part}
 use Rattle.hilti_typing.specs.Types.{plain_type, passes, is_int}
 use Rattle.hilti_operands.specs.Answers.{then_read, if_passes}
 use Rattle.hilti_row_types.specs.Same.{same_type}
+use Rattle.hilti_operands.specs.declared.own.Untyped.{Untyped}
 use Rattle.hilti_operands.specs.Seen.{BodySeen, LineSeen, context}
 
 -- the first token of an operand
@@ -135,11 +136,7 @@ asked_type line (kinds.Part part) known = known_part part known
 asked_type line kinds.Same known = known_type known
 asked_type line _ known = None
 
--- the types that a number and Null have where none is asked
-pub record Untyped : Type 0 where
-  pub number : Option ValueType
-  pub null : Option ValueType
-
+-- the type that a literal has by itself; numbers and Null have these types where none is asked
 abbrev pub literal_by : Untyped → (Name → Meaning) → Literal → Option ValueType
 literal_by untyped mean (literals.Number number) = untyped.number
 literal_by untyped mean (literals.Null place) = untyped.null

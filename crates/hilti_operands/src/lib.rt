@@ -8,6 +8,7 @@ mod known;
 mod literal;
 mod names;
 mod operands;
+mod own;
 mod start;
 mod values;
 mod view;

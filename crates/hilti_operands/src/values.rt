@@ -197,10 +197,3 @@ pub fn read_of_kind(
         _ => Err(wrong(&line.body, simple)),
     }
 }
-
-/// The types that a number and Null have where none is asked.
-#[derive(Debug, Drop)]
-pub struct Untyped {
-    pub number: Option<ValueType>,
-    pub null: Option<ValueType>,
-}
