@@ -146,8 +146,11 @@ abbrev pub field_at : Option ℕ → Option Operand
 field_at None = None
 field_at (Some n) = Some (operands.Field n)
 
+unfoldable pub member_place : List Member → List ℕ → Option ℕ
+member_place fields word = position (λ (m : Member). bytes_eq m.name word) fields
+
 abbrev pub field_meant : List Member → List ℕ → Option Operand
-field_meant fields word = field_at (position (λ (m : Member). bytes_eq m.name word) fields)
+field_meant fields word = field_at (member_place fields word)
 
 abbrev pub read_field : BodySeen → Known → Simple → Result Operand Refusal
 read_field body known simple =
@@ -158,9 +161,11 @@ abbrev pub read_fields : Option (List OverlayField) → List OverlayField
 read_fields None = []
 read_fields (Some fields) = fields
 
+unfoldable pub field_place : List OverlayField → List ℕ → Option ℕ
+field_place fields word = position (λ (f : OverlayField). bytes_eq f.name word) fields
+
 abbrev pub overlay_field_meant : List OverlayField → List ℕ → Option Operand
-overlay_field_meant fields word =
-    field_at (position (λ (f : OverlayField). bytes_eq f.name word) fields)
+overlay_field_meant fields word = field_at (field_place fields word)
 
 abbrev pub read_overlay_field : BodySeen → Known → Simple → Result Operand Refusal
 read_overlay_field body known simple =

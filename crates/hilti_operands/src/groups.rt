@@ -1,5 +1,5 @@
 //! Operands in parentheses.
-ghost use Rattle.std.specs.Prelude.{◌≡◌, length};
+ghost use Rattle.std.specs.Prelude.{◌≡◌, length, slice_get};
 ghost use Rattle.std.specs.Option.{option_copied, option_map};
 ghost use Rattle.hilti_resolve.specs.Answering.{Makes};
 ghost use Rattle.hilti_typing.specs.Fits as fits;
@@ -158,6 +158,13 @@ fn read_member(
     }
 }
 
+/// The type that belongs to a place of a group.
+fn type_at(kinds: &[ValueType], at: usize) -> Option<&ValueType>
+    ensures { option_copied result ≡ slice_get kinds.now at }
+{
+    kinds.get(at)
+}
+
 /// The operands of a group of a kind, from left to right.
 fn read_members(
     alloc: Global,
@@ -171,7 +178,7 @@ fn read_members(
 {
     let mut members = Operands::new(alloc);
     for at in 0..items.len() {
-        match read_member(alloc, line, group, kinds.get(at), &items[at]) {
+        match read_member(alloc, line, group, type_at(kinds, at), &items[at]) {
             Ok(member) => members.push(member)?,
             Err(refusal) => return Err(refusal),
         }

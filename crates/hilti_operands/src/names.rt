@@ -1,9 +1,7 @@
 //! Written names.
-ghost use Rattle.std.specs.Prelude.{◌≡◌, ◌+◌, nat_lt, bytes_eq};
-ghost use Rattle.std.specs.List.{position};
+ghost use Rattle.std.specs.Prelude.{◌≡◌, ◌+◌, nat_lt, ok_or};
 ghost use Rattle.std.specs.Option.{option_copied};
-ghost use Rattle.hilti_types.specs.declared.declared.Member.{Member as AMember};
-ghost use Rattle.hilti_types.specs.declared.declared.OverlayField.{OverlayField as AField};
+ghost use Rattle.hilti_base.specs.declared.refusal.Refusal.TheVariants.{At};
 ghost use Rattle.hilti_resolve.specs.Answering.{Makes};
 ghost use Rattle.hilti_resolve.specs.Containers.{container_start, container_refusal};
 ghost use Rattle.hilti_resolve.specs.Values.{container_value_of};
@@ -17,7 +15,7 @@ use crate::known::{Known, known_fields, known_members, known_parts, known_type};
 use crate::start::wrong;
 use crate::values::whole;
 use crate::view::BodyView;
-use hilti_base::{FnId, NoMemory, Refusal};
+use hilti_base::{FnId, NoMemory, Place, Refusal};
 use hilti_link::LinkedFunction;
 use hilti_module::{Container, Literal, Number, Simple, Word};
 use hilti_parts::Operand;
@@ -260,22 +258,23 @@ pub fn read_mode(body: &BodyView<'_>, simple: &Simple) -> Result<Operand, Refusa
     }
 }
 
-/// The field at a place, where there is one.
-fn field_at(place: Option<usize>) -> Result<Option<Operand>, NoMemory>
-    ensures { Makes result (spec.field_at place) }
+/// The field at a place. Where there is none, its word is refused with code 30 alone.
+fn field_at(place: Place, field: Option<usize>) -> Result<Operand, Refusal>
+    ensures { Told result (ok_or (spec.field_at field) (At place 30)) }
 {
-    match place {
+    match field {
         Some(at) => {
             let n = whole(at)?;
-            Ok(Some(Operand::Field { n }))
+            Ok(Operand::Field { n })
         }
-        None => Ok(None),
+        None => Err(refusal(place, BAD_KIND)),
     }
 }
 
 /// The place of the field of a word among those of a struct.
+#[tactic(auto, unfolding(crate::specs::Names::member_place))]
 fn member_place(fields: &[Member], word: &[u8]) -> Option<usize>
-    ensures { result ≡ position (λ (m : AMember). bytes_eq m.name word.now) fields.now }
+    ensures { result ≡ spec.member_place fields.now word.now }
 {
     fields
         .iter()
@@ -283,8 +282,9 @@ fn member_place(fields: &[Member], word: &[u8]) -> Option<usize>
 }
 
 /// The place of the field of a word among those of an overlay.
+#[tactic(auto, unfolding(crate::specs::Names::field_place))]
 fn field_place(fields: &[OverlayField], word: &[u8]) -> Option<usize>
-    ensures { result ≡ position (λ (f : AField). bytes_eq f.name word.now) fields.now }
+    ensures { result ≡ spec.field_place fields.now word.now }
 {
     fields.iter().position(|field| field.name.bytes() == word)
 }
@@ -300,11 +300,8 @@ pub fn read_field(
 {
     match one_word(simple) {
         Some(word) => {
-            let place = member_place(known_members(body, known), word.bytes.bytes());
-            match field_at(place)? {
-                Some(operand) => Ok(operand),
-                None => Err(refusal(word.place, BAD_KIND)),
-            }
+            let field = member_place(known_members(body, known), word.bytes.bytes());
+            field_at(word.place, field)
         }
         None => Err(wrong(body, simple)),
     }
@@ -321,11 +318,8 @@ pub fn read_overlay_field(
 {
     match one_word(simple) {
         Some(word) => {
-            let place = field_place(known_fields(body, known), word.bytes.bytes());
-            match field_at(place)? {
-                Some(operand) => Ok(operand),
-                None => Err(refusal(word.place, BAD_KIND)),
-            }
+            let field = field_place(known_fields(body, known), word.bytes.bytes());
+            field_at(word.place, field)
         }
         None => Err(wrong(body, simple)),
     }
