@@ -1,1 +1,4 @@
+pub mod ReadGroups
+pub mod ReadNames
+pub mod ReadValues
 pub mod Telling

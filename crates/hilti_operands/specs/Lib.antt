@@ -1,5 +1,6 @@
 pub mod Answers
 pub mod Groups
+pub mod Laws
 pub mod Lines
 pub mod Names
 pub mod Operands

@@ -5,6 +5,7 @@
 mod codes;
 mod groups;
 mod known;
+pub mod laws;
 mod literal;
 mod names;
 mod operands;
