@@ -3,7 +3,7 @@ use Rattle.std.proofs.Common.{◌≡◌, ◌∙◌, ℕ, suc, ◌<◌, ◌≤◌
 use Rattle.std.specs.Prelude.{nat_le, nat_eq, ◌&&◌, Result, IsSomeAnd, slice_get, drop}
 use Rattle.std.specs.Option.{option_map}
 use Rattle.std.specs.List.{All, AllZip, AllByRecursion}
-use Rattle.std.proofs.lemmas.Bool.{false≢true, eqb-true, leb-le}
+use Rattle.std.proofs.lemmas.Bool.{false≢true, eqb-true, leb-true}
 use Rattle.std.proofs.lemmas.List.Elements.{All-from_recursion}
 use Rattle.hilti_base.specs.declared.names.Place.{Place}
 use Rattle.hilti_base.specs.declared.refusal.Refusal.{Refusal}
@@ -137,8 +137,8 @@ parts_asked line known place items x e =
     let it = members_ok line kinds.Parts place items (known_parts line.target) x e in
     let few = both (nat_le 1 (length items)) (nat_le (length items) 8) it.0 in
     let all = each_is (read_member line kinds.Parts) (IsSound (context line.body)) (λ t s y e. own_sound line.body (untyped_part line t) s y e) (known_parts line.target) items it.1.0 it.1.1 in
-    let low = leb-le 1 (length items) few.0 in
-    let high = leb-le (length items) 8 few.1 in
+    let low = leb-true 1 (length items) few.0 in
+    let high = leb-true (length items) 8 few.1 in
     let some : 1 ≤ length it.1.0 = omega (arith, low, all.1) in
     let most : length it.1.0 ≤ 8 = omega (arith, high, all.1) in
     in_group (AreParts (context line.body)) x it.1.0 it.1.2
