@@ -119,9 +119,10 @@ sent_are line place items None x e = cc
 sent_are line place items (Some f) x e =
     let it = members_ok line kinds.Sent place items f.parameters x e in
     let same = eqb-true (length f.parameters) (length items) it.0 in
-    let all = one_for_each (read_member line kinds.Sent) (SentAs line.body) (sent_is line) f.parameters items it.1.0 same it.1.1 in
-    (in_group (HaveAll (context line.body) f.parameters) x it.1.0 it.1.2 (all_have line.body f.parameters it.1.0 all),
-    All-from_recursion (IsSendable line.body.tables.types) f.parameters (all_go line.body f.parameters it.1.0 all))
+    let all = one_for_each (read_member line kinds.Sent) (SentAs line.body) (sent_is line) f.parameters items it.1.0 same it.1.1 in (
+      in_group (HaveAll (context line.body) f.parameters) x it.1.0 it.1.2 (all_have line.body f.parameters it.1.0 all),
+      All-from_recursion (IsSendable line.body.tables.types) f.parameters (all_go line.body f.parameters it.1.0 all),
+    )
 
 pub sent_asked : (line : LineSeen) (known : Known) (place : Place) (items : List Simple) (x : Operand) → read_group line kinds.Sent known place items ≡ Ok x → AsksSent (context line.body) known x
 sent_asked line known place items x e = sent_are line place items (known_signature known) x e

@@ -36,7 +36,6 @@ use Rattle.hilti_operands.specs.Names.{meaning_of, read_named, struct_meant, con
 use Rattle.hilti_operands.proofs.ReadValues.{ok_is}
 use Rattle.hilti_operands.proofs.ReadNames.{there}
 
-
 made_is : {E : Type 0} (made object : Inner) → ◌≡◌ {A = Result Inner E} (Ok made) (Ok object) → IsTrue (can_be_made made) → IsTrue (can_be_made object)
 made_is made object e can = let same : made ≡ object = cc in subst (λ (o : Inner). IsTrue (can_be_made o)) same can
 

@@ -1,6 +1,7 @@
 -- What written names stand for.
 use Rattle.std.specs.Prelude.{ℕ, ◌+◌, nat_lt, Bool, true, false, not, cond, List, [], length, codes}
-use Rattle.std.specs.Prelude.{bytes_eq, slice_get, Option, Some, None, is_some, ok_or, Result, Ok, Err}
+use Rattle.std.specs.Prelude.{bytes_eq, slice_get, Option, Some, None, is_some, ok_or, Result, Ok}
+use Rattle.std.specs.Prelude.{Err}
 use Rattle.std.specs.List.{position}
 use Rattle.hilti_base.specs.declared.names.Place.{Place}
 use Rattle.hilti_base.specs.declared.refusal.Refusal.{Refusal}

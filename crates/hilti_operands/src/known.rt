@@ -42,8 +42,7 @@ fn known_object<'a>(body: &BodyView<'_>, known: &'a Known) -> Option<&'a Inner>
 
 /// A part of the known object.
 pub fn known_part<'a>(body: &BodyView<'_>, part: Part, known: &'a Known) -> Option<&'a ValueType>
-    ensures { option_copied result ≡ fits.known_part part (known_of (body_seen body.now) known.now)
-        }
+    ensures { option_copied result ≡ fits.known_part part (known_of (body_seen body.now) known.now) }
 {
     match known_object(body, known) {
         Some(object) => part_of(part, object),

@@ -1,5 +1,5 @@
-//! What the operands of a line say: each written operand read where its row's kind asks for it, as the typed operand that
-//! it stands for or the first refusal with its code and place.
+//! What the operands of a line say: each written operand is read where its row's kind asks for it, as the typed operand
+//! that it stands for or the first refusal with its code and place.
 #![tactic(auto)]
 
 mod codes;

@@ -58,9 +58,7 @@ pub fn function_meant(body: &BodyView<'_>, which: Callee, meaning: Meaning) -> O
     ensures { result ≡ spec.function_meant (body_seen body.now) which meaning }
 {
     match meaning {
-        Meaning::Function { n } => {
-            function_at(which, n, body.tables.functions.get(n as usize))
-        }
+        Meaning::Function { n } => { function_at(which, n, body.tables.functions.get(n as usize)) }
         _ => None,
     }
 }
@@ -154,11 +152,7 @@ pub fn read_named(
 }
 
 /// The type of an object that can be made: a struct, a container or a timer manager.
-pub fn read_new(
-    alloc: Global,
-    body: &BodyView<'_>,
-    simple: &Simple,
-) -> Result<Operand, Refusal>
+pub fn read_new(alloc: Global, body: &BodyView<'_>, simple: &Simple) -> Result<Operand, Refusal>
     ensures { Told result (spec.read_new (body_seen body.now) simple.now) }
 {
     match simple {
@@ -171,11 +165,7 @@ pub fn read_new(
 }
 
 /// The type of a container that is to be made.
-fn read_made(
-    alloc: Global,
-    body: &BodyView<'_>,
-    container: &Container,
-) -> Result<Operand, Refusal>
+fn read_made(alloc: Global, body: &BodyView<'_>, container: &Container) -> Result<Operand, Refusal>
     ensures { Told result (spec.container_made (container_start container.now)
         (container_refusal body.now.tables.now.types (means body.now.scope.now) container.now)
         (container_value_of body.now.tables.now.types (means body.now.scope.now) container.now)) }
@@ -276,9 +266,7 @@ fn field_at(place: Place, field: Option<usize>) -> Result<Operand, Refusal>
 fn member_place(fields: &[Member], word: &[u8]) -> Option<usize>
     ensures { result ≡ spec.member_place fields.now word.now }
 {
-    fields
-        .iter()
-        .position(|member| member.name.bytes() == word)
+    fields.iter().position(|member| member.name.bytes() == word)
 }
 
 /// The place of the field of a word among those of an overlay.
@@ -290,11 +278,7 @@ fn field_place(fields: &[OverlayField], word: &[u8]) -> Option<usize>
 }
 
 /// A field of the known struct. A word that is none is refused with code 30 alone.
-pub fn read_field(
-    body: &BodyView<'_>,
-    known: &Known,
-    simple: &Simple,
-) -> Result<Operand, Refusal>
+pub fn read_field(body: &BodyView<'_>, known: &Known, simple: &Simple) -> Result<Operand, Refusal>
     ensures { Told result (spec.read_field (body_seen body.now)
         (known_of (body_seen body.now) known.now) simple.now) }
 {
@@ -340,11 +324,7 @@ fn number_below(number: &Number, count: usize) -> Result<Operand, Refusal>
 }
 
 /// The place of a part of the known tuple, as a number.
-pub fn read_index(
-    body: &BodyView<'_>,
-    known: &Known,
-    simple: &Simple,
-) -> Result<Operand, Refusal>
+pub fn read_index(body: &BodyView<'_>, known: &Known, simple: &Simple) -> Result<Operand, Refusal>
     ensures { result ≡ spec.read_index (body_seen body.now) (known_of (body_seen body.now) known.now)
         simple.now }
 {

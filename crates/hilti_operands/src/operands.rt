@@ -35,9 +35,7 @@ fn read_simple(
     match kind {
         Kind::Own(test) => read_tested(alloc, line, test, simple),
         Kind::Returned => read_returned(alloc, line, simple),
-        Kind::Function(which) => {
-            read_named(body, function_meant(body, which, meaning), simple)
-        }
+        Kind::Function(which) => { read_named(body, function_meant(body, which, meaning), simple) }
         Kind::Hook => read_named(body, hook_meant(body, meaning), simple),
         Kind::Exception => read_named(body, exception_meant(body, meaning), simple),
         Kind::Overlay => read_named(body, overlay_meant(body, meaning), simple),
@@ -53,7 +51,7 @@ fn read_simple(
 
 /// The operand that a written one stands for where a kind is asked, behind what is known; or its first refusal: code 21
 /// at a name that means nothing, 30 at the first token of an operand of another kind or type, 31 at the mnemonic for a
-/// wrong number of operands in parentheses, 35 at one of a type that isn't sendable, and 36 at a literal that doesn't fit.
+/// wrong number of operands in parentheses, 35 at one of a type that isn't sendable, 36 at a literal that doesn't fit.
 pub fn read_operand(
     alloc: Global,
     line: &LineView<'_>,

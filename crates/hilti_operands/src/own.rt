@@ -50,11 +50,7 @@ fn kind_given(found: Option<Operand>) -> Option<ValueType>
 }
 
 /// The type that a literal has by itself.
-fn type_of_literal(
-    scope: &Scope<'_>,
-    untyped: Untyped,
-    literal: &Literal,
-) -> Option<ValueType>
+fn type_of_literal(scope: &Scope<'_>, untyped: Untyped, literal: &Literal) -> Option<ValueType>
     ensures { result ≡ spec.literal_by untyped (means scope.now) literal.now }
 {
     match literal {

@@ -80,11 +80,7 @@ fn with_its_type(
 }
 
 /// The variable of a name, with its type.
-pub fn given(
-    alloc: Global,
-    body: &BodyView<'_>,
-    name: &Name,
-) -> Result<Option<Operand>, NoMemory>
+pub fn given(alloc: Global, body: &BodyView<'_>, name: &Name) -> Result<Option<Operand>, NoMemory>
     ensures { Makes result (spec.given (body_seen body.now) name.now) }
 {
     match variable_meant(body.scope.meaning(name))? {

@@ -15,8 +15,8 @@ pub struct BodyView<'a> {
     pub blocks: usize,
 }
 
-/// A line of a body: the place of its mnemonic, the type of its target, the width of its numbers in bits, and the type of
-/// its Null where no other is asked.
+/// A line of a body: the place of its mnemonic, the type of its target, the width of its numbers in bits, and the type
+/// of its Null where no other is asked.
 #[derive(Clone, Copy)]
 pub struct LineView<'a> {
     pub body: BodyView<'a>,

@@ -3,12 +3,10 @@
 
 mod copies;
 mod parts;
-mod same;
 mod passing;
+mod same;
 
 pub use copies::{copy_object, copy_parts, copy_type};
-pub use parts::{
-    fields_of, iterated, object_of, overlay_fields, part_of, parts_of, rule_of,
-};
-pub use same::is_same;
+pub use parts::{fields_of, iterated, object_of, overlay_fields, part_of, parts_of, rule_of};
 pub use passing::{can_be_made, is_int, may_be_null, passes, plain_type};
+pub use same::is_same;
