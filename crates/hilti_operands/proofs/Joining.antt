@@ -1,9 +1,7 @@
 -- What is read fits what is asked.
-use Rattle.std.proofs.Common.{◌≡◌, List, [], ◌∷◌, subst, refl, Ok, Err}
-use Rattle.std.specs.Prelude.{Result, IsSome}
+use Rattle.std.proofs.Common.{◌≡◌, List, [], ◌∷◌, subst, Ok}
 use Rattle.std.specs.List.{AllByRecursion}
 use Rattle.hilti_base.specs.declared.names.Place.{Place}
-use Rattle.hilti_base.specs.declared.refusal.Refusal.{Refusal}
 use Rattle.hilti_module.specs.declared.module.Operand.{Operand as Written}
 use Rattle.hilti_module.specs.declared.module.Operand.TheVariants as written
 use Rattle.hilti_module.specs.declared.module.Simple.{Simple}
@@ -13,9 +11,8 @@ use Rattle.hilti_table.specs.declared.row.Kind.TheVariants as kinds
 use Rattle.hilti_parts.specs.declared.parts.Operand.{Operand}
 use Rattle.hilti_typing.specs.Context.{Known}
 use Rattle.hilti_typing.specs.Fits.{Asks, Fit, Gets, learn}
-use Rattle.hilti_operands.specs.Answers.{then_read}
 use Rattle.hilti_operands.specs.Groups.{read_group}
-use Rattle.hilti_operands.specs.Laws.{MayAsk, ReadsWhatIsAsked, ReadsWhatFits}
+use Rattle.hilti_operands.specs.Laws.{MayAsk, ReadsWhatIsAsked}
 use Rattle.hilti_operands.specs.Lines.{Read, in_front, read_all}
 use Rattle.hilti_operands.specs.Operands.{read_simple, read_operand}
 use Rattle.hilti_operands.specs.Seen.{LineSeen, setting}

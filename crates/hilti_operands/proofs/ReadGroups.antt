@@ -1,7 +1,6 @@
 -- What is read of a group is what is asked.
-use Rattle.std.proofs.Common.{◌≡◌, ◌∙◌, ℕ, suc, ◌<◌, ◌≤◌, Bool, true, false, cond, IsTrue, List, [], ◌∷◌, length, map, sym, refl, ap, subst, Option, Some, None, Ok, Err, arith}
-use Rattle.std.specs.Prelude.{nat_le, nat_eq, ◌&&◌, Result, IsSomeAnd, slice_get, drop}
-use Rattle.std.specs.Option.{option_map}
+use Rattle.std.proofs.Common.{◌≡◌, ◌∙◌, suc, ◌≤◌, Bool, true, false, cond, List, [], ◌∷◌, length, map, sym, refl, ap, subst, Option, Some, None, Ok, Err, arith}
+use Rattle.std.specs.Prelude.{nat_le, ◌&&◌, Result, IsSomeAnd, slice_get, drop}
 use Rattle.std.specs.List.{All, AllZip, AllByRecursion}
 use Rattle.std.proofs.lemmas.Bool.{false≢true, eqb-true, leb-true}
 use Rattle.std.proofs.lemmas.List.Elements.{All-from_recursion}
@@ -9,9 +8,7 @@ use Rattle.hilti_base.specs.declared.names.Place.{Place}
 use Rattle.hilti_base.specs.declared.refusal.Refusal.{Refusal}
 use Rattle.hilti_base.specs.declared.refusal.Refusal.TheVariants.{At}
 use Rattle.hilti_types.specs.Sendable.{IsSendable, is_sendable_in}
-use Rattle.hilti_types.specs.declared.declared.Declared.{Declared}
 use Rattle.hilti_types.specs.declared.value_type.ValueType.{ValueType}
-use Rattle.hilti_types.specs.declared.value_type.ValueType.TheVariants as types
 use Rattle.hilti_module.specs.declared.module.Simple.{Simple}
 use Rattle.hilti_module.specs.declared.module.Simple.TheVariants as simples
 use Rattle.hilti_table.specs.declared.row.Kind.{Kind}
@@ -23,12 +20,11 @@ use Rattle.hilti_parts.specs.Named.{grouped, in_parentheses}
 use Rattle.hilti_typing.specs.Context.{Signature, Context, Known}
 use Rattle.hilti_typing.specs.Fits.{Has, HaveAll, Matches, IsSound, AreParts, AsksArguments, AsksSent, AsksRule, AsksQuery, known_signature, known_rule}
 use Rattle.hilti_typing.specs.Types.{asked_for}
-use Rattle.hilti_operands.specs.Answers.{then_read, if_passes}
 use Rattle.hilti_operands.specs.Seen.{BodySeen, LineSeen, context}
-use Rattle.hilti_operands.specs.Values.{simple_start, read_asked}
+use Rattle.hilti_operands.specs.Values.{read_asked}
 use Rattle.hilti_operands.specs.Names.{known_parts}
-use Rattle.hilti_operands.specs.Groups.{is_sent, read_sent, read_part, untyped_part, read_match, read_member, read_members, parameters_of, member_types, is_counted, grouped_read, members_read, read_group}
-use Rattle.hilti_operands.proofs.ReadValues.{then_ok, passed, ok_is, asked_has, own_sound, value_has}
+use Rattle.hilti_operands.specs.Groups.{read_sent, untyped_part, read_match, read_member, read_members, parameters_of, is_counted, grouped_read, members_read, read_group}
+use Rattle.hilti_operands.proofs.ReadValues.{then_ok, passed, ok_is, own_sound, value_has}
 
 -- operands that are read one for each type
 module _ (read : Option ValueType → Simple → Result Operand Refusal) where

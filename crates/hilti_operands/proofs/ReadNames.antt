@@ -1,18 +1,15 @@
 -- What is read of a name is what is asked.
-use Rattle.std.proofs.Common.{◌≡◌, ◌∙◌, ℕ, ◌+◌, ◌<◌, Bool, true, false, cond, IsTrue, List, [], ◌∷◌, length, map, sym, refl, ap, subst, Option, Some, None, Ok, Err, arith}
-use Rattle.std.specs.Prelude.{nat_lt, not, is_some, ok_or, Result, IsSomeAnd, IsSome, bytes_eq, slice_get, codes}
+use Rattle.std.proofs.Common.{◌≡◌, ◌∙◌, ℕ, ◌+◌, ◌<◌, Bool, true, false, cond, IsTrue, List, [], ◌∷◌, length, sym, refl, ap, subst, Option, Some, None, Ok, arith}
+use Rattle.std.specs.Prelude.{nat_lt, not, is_some, ok_or, IsSomeAnd, IsSome, bytes_eq, slice_get, codes}
 use Rattle.std.specs.Option.{option_map, option_and_then}
 use Rattle.std.specs.List.{position}
 use Rattle.std.proofs.lemmas.Bool.{false≢true, ltb-true}
 use Rattle.std.proofs.lemmas.List.Quantifiers.{position-Some}
 use Rattle.std.proofs.lemmas.Option.{slice_get-get_or, slice_get-map}
-use Rattle.hilti_base.specs.declared.names.Place.{Place}
 use Rattle.hilti_base.specs.declared.refusal.Refusal.{Refusal}
-use Rattle.hilti_base.specs.declared.refusal.Refusal.TheVariants.{At}
 use Rattle.hilti_types.specs.declared.declared.Member.{Member}
 use Rattle.hilti_types.specs.declared.declared.OverlayField.{OverlayField}
 use Rattle.hilti_types.specs.declared.value_type.Inner.{Inner}
-use Rattle.hilti_types.specs.declared.value_type.Inner.TheVariants as inners
 use Rattle.hilti_types.specs.declared.value_type.ValueType.{ValueType}
 use Rattle.hilti_types.specs.declared.value_type.ValueType.TheVariants as types
 use Rattle.hilti_tree.specs.declared.tree.Tree.TheVariants as trees
@@ -32,12 +29,10 @@ use Rattle.hilti_parts.specs.declared.parts.Operand.{Operand}
 use Rattle.hilti_parts.specs.declared.parts.Operand.TheVariants as operands
 use Rattle.hilti_parts.specs.Named.{named_block}
 use Rattle.hilti_typing.specs.Context.{Signature, Known}
-use Rattle.hilti_typing.specs.Fits.{MayBe, callee, hook, overlay, exception_number, is_mode, tuple_part, field, overlay_field, field_type, known_type, known_object, known_overlay, reading}
+use Rattle.hilti_typing.specs.Fits.{MayBe, callee, hook, overlay, exception_number, is_mode, tuple_part, field, overlay_field, field_type, known_type, known_object, known_overlay}
 use Rattle.hilti_typing.specs.Types.{overlay_fields, fields_of, parts_of}
-use Rattle.hilti_operands.specs.Answers.{if_passes}
 use Rattle.hilti_operands.specs.Seen.{BodySeen, context, function_signature, hook_signature}
-use Rattle.hilti_operands.specs.Values.{wrong}
-use Rattle.hilti_operands.specs.Names.{meaning_of, named, read_named, may_be, function_at, function_meant, hook_at, hook_meant, exception_meant, overlay_at, overlay_meant, block_at, read_label, alone, one_word, word_meant, read_word, mode_meant, members, field_at, member_place, field_meant, read_field, read_fields, field_place, overlay_field_meant, read_overlay_field, known_parts, number_below, read_index}
+use Rattle.hilti_operands.specs.Names.{meaning_of, read_named, may_be, function_at, function_meant, hook_at, hook_meant, exception_meant, overlay_at, overlay_meant, block_at, read_label, one_word, word_meant, read_word, mode_meant, members, field_at, member_place, field_meant, read_field, read_fields, field_place, overlay_field_meant, read_overlay_field, known_parts, number_below, read_index}
 use Rattle.hilti_operands.proofs.ReadValues.{passed, ok_is}
 
 -- what is there

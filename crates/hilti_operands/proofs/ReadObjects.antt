@@ -20,13 +20,12 @@ use Rattle.hilti_module.specs.declared.types.Container.{Container, out-Container
 use Rattle.hilti_module.specs.declared.types.Container.TheVariants as containers
 use Rattle.hilti_module.specs.declared.types.Container.TheOpen.{Container-F}
 use Rattle.hilti_module.specs.declared.types.Container.TheFolds.{the_lemmas}
-use Rattle.hilti_module.specs.declared.module.Literal.{Literal}
 use Rattle.hilti_module.specs.declared.module.Simple.{Simple}
 use Rattle.hilti_module.specs.declared.module.Simple.TheVariants as simples
 use Rattle.hilti_scope.specs.declared.meaning.Meaning.{Meaning}
 use Rattle.hilti_scope.specs.declared.meaning.Meaning.TheVariants as means
 use Rattle.hilti_resolve.specs.Containers.{container_refusal, container_start}
-use Rattle.hilti_resolve.specs.Values.{Read, read, read_of, container_read_of, container_value_of, single_value, double_value, both_value, with_second, object_of, takes, is_map}
+use Rattle.hilti_resolve.specs.Values.{Read, read, read_of, container_read_of, container_value_of, single_value, double_value, both_value, with_second, takes, is_map}
 use Rattle.hilti_parts.specs.declared.parts.Operand.{Operand}
 use Rattle.hilti_parts.specs.declared.parts.Operand.TheVariants as operands
 use Rattle.hilti_typing.specs.Fits.{made}

@@ -1,9 +1,9 @@
 -- What is read of a value is a value of its type.
-use Rattle.std.proofs.Common.{◌≡◌, ◌∙◌, ℕ, suc, zero, ◌+◌, ◌<◌, ◌^◌, Bool, true, false, cond, IsTrue, List, [], ◌∷◌, length, sym, refl, ap, subst, Option, Some, None, Ok, Err, arith}
+use Rattle.std.proofs.Common.{◌≡◌, ◌∙◌, ℕ, suc, ◌+◌, ◌<◌, ◌^◌, Bool, true, false, cond, IsTrue, List, [], ◌∷◌, length, sym, refl, ap, subst, Option, Some, None, Ok, Err, arith}
 use Rattle.std.specs.Prelude.{nat_lt, not, ◌||◌, ◌&&◌, Result, IsSomeAnd, IsSome, bytes_eq}
 use Rattle.std.specs.Option.{option_map, option_and_then, unwrap_or}
 use Rattle.std.specs.List.{position, position_or_len, list_any, slice_get}
-use Rattle.std.proofs.lemmas.Bool.{false≢true, ltb-true, lt-ltb, eqb-true}
+use Rattle.std.proofs.lemmas.Bool.{false≢true, lt-ltb, eqb-true}
 use Rattle.hilti_base.specs.declared.names.Place.{Place}
 use Rattle.hilti_base.specs.declared.refusal.Refusal.{Refusal}
 use Rattle.hilti_base.specs.declared.refusal.Refusal.TheVariants.{At}
@@ -12,7 +12,6 @@ use Rattle.hilti_types.specs.declared.declared.Declared.TheVariants as tabled
 use Rattle.hilti_types.specs.declared.value_type.ValueType.{ValueType}
 use Rattle.hilti_types.specs.declared.value_type.ValueType.TheVariants as types
 use Rattle.hilti_tree.specs.declared.tree.Tree.{Tree}
-use Rattle.hilti_tree.specs.declared.tree.Tree.TheVariants as trees
 use Rattle.hilti_module.specs.declared.types.Name.{Name}
 use Rattle.hilti_module.specs.declared.types.Number.{Number}
 use Rattle.hilti_module.specs.declared.module.Literal.{Literal}
@@ -37,7 +36,7 @@ use Rattle.hilti_row_types.proofs.Sameness.{equal_types}
 use Rattle.hilti_operands.specs.declared.own.Untyped.{Untyped}
 use Rattle.hilti_operands.specs.Answers.{then_read, if_passes}
 use Rattle.hilti_operands.specs.Seen.{BodySeen, LineSeen, context}
-use Rattle.hilti_operands.specs.Values.{wrong, variable_meant, with_its_type, given, is_of_type, variable_of_type, literal_of_type, read_value, read_asked, read_own, own_type, is_passing, tested, test_code, read_tested, untyped_by, simple_start, read_returned}
+use Rattle.hilti_operands.specs.Values.{variable_meant, with_its_type, given, is_of_type, variable_of_type, literal_of_type, read_value, read_asked, read_own, own_type, is_passing, read_tested, untyped_by, read_returned}
 
 pub then_ok : {A B : Type 0} (r : Result A Refusal) (f : A → Result B Refusal) (y : B) → then_read r f ≡ Ok y → (x : A) × (r ≡ Ok x) × (f x ≡ Ok y)
 then_ok (Ok x) f y e = (x, refl, e)

@@ -17,12 +17,12 @@ use Rattle.hilti_parts.specs.declared.parts.Operand.{Operand}
 use Rattle.hilti_parts.specs.declared.parts.Operand.TheVariants as operands
 use Rattle.hilti_typing.specs.Context.{Signature, Known}
 use Rattle.hilti_typing.specs.Fits.{known_signature, known_rule}
-use Rattle.hilti_typing.specs.Types.{asked_for, is_int, parts_of}
+use Rattle.hilti_typing.specs.Types.{asked_for, is_int}
 use Rattle.hilti_operands.specs.declared.own.Untyped.{Untyped}
 use Rattle.hilti_operands.specs.Answers.{then_read, refused, if_passes}
 use Rattle.hilti_operands.specs.Names.{known_parts}
 use Rattle.hilti_operands.specs.Seen.{BodySeen, LineSeen}
-use Rattle.hilti_operands.specs.Values.{simple_start, wrong, read_asked, read_own}
+use Rattle.hilti_operands.specs.Values.{simple_start, read_asked, read_own}
 
 -- an argument that is sent to another thread: where its parameter isn't of a sendable type it is
 -- refused with code 35, behind its own faults

@@ -1,5 +1,5 @@
 -- What is so of all operands that are read.
-use Rattle.std.specs.Prelude.{◌≡◌, List, IsSome, Result, Ok, Err}
+use Rattle.std.specs.Prelude.{◌≡◌, List, IsSome, Ok}
 use Rattle.std.specs.List.{AllByRecursion}
 use Rattle.hilti_module.specs.declared.module.Operand.{Operand as Written}
 use Rattle.hilti_table.specs.declared.row.Gives.{Gives}

@@ -1,13 +1,12 @@
 -- What the operands of a line stand for, one after another.
-use Rattle.std.specs.Prelude.{◌≡◌, ℕ, nat_le, nat_eq, Bool, true, false, ◌&&◌, cond, List, [], ◌∷◌}
-use Rattle.std.specs.Prelude.{length, Option, Some, None, IsSome, Result, Ok, Err, slice_get}
-use Rattle.std.specs.Option.{option_map, option_or, option_and_then, unwrap_or}
+use Rattle.std.specs.Prelude.{ℕ, Bool, true, false, cond, List, [], ◌∷◌}
+use Rattle.std.specs.Prelude.{Option, Some, None, Result, Ok}
+use Rattle.std.specs.Option.{option_or, option_and_then, unwrap_or}
 use Rattle.hilti_base.specs.declared.names.Place.{Place}
 use Rattle.hilti_base.specs.declared.refusal.Refusal.{Refusal}
 use Rattle.hilti_types.specs.declared.value_type.ValueType.{ValueType}
 use Rattle.hilti_module.specs.declared.module.Operand.{Operand as Written}
 use Rattle.hilti_module.specs.declared.module.Operand.TheVariants as written
-use Rattle.hilti_module.specs.declared.module.Simple.{Simple}
 use Rattle.hilti_module.specs.declared.module.Simple.TheVariants as simples
 use Rattle.hilti_table.specs.declared.row.Kind.{Kind}
 use Rattle.hilti_table.specs.declared.row.Kind.TheVariants as kinds

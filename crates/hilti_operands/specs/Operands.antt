@@ -1,5 +1,5 @@
 -- What a written operand stands for where a kind is asked.
-use Rattle.std.specs.Prelude.{List, Option, Result, Ok, Err}
+use Rattle.std.specs.Prelude.{Result}
 use Rattle.hilti_base.specs.declared.refusal.Refusal.{Refusal}
 use Rattle.hilti_module.specs.declared.module.Operand.{Operand as Written}
 use Rattle.hilti_module.specs.declared.module.Operand.TheVariants as written
@@ -13,7 +13,7 @@ use Rattle.hilti_operands.specs.Names.{read_named, function_meant, hook_meant, e
 use Rattle.hilti_operands.specs.Names.{overlay_meant, read_new, read_label, read_word, mode_meant}
 use Rattle.hilti_operands.specs.Names.{read_field, read_overlay_field, read_index}
 use Rattle.hilti_operands.specs.Seen.{LineSeen}
-use Rattle.hilti_operands.specs.Values.{wrong, read_asked, asked_type, read_tested, read_returned}
+use Rattle.hilti_operands.specs.Values.{read_asked, asked_type, read_tested, read_returned}
 
 -- an operand without parentheses
 abbrev pub read_simple : LineSeen → Kind → Known → Simple → Result Operand Refusal

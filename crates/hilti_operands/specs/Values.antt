@@ -1,12 +1,12 @@
 -- What written values stand for.
-use Rattle.std.specs.Prelude.{ℕ, ◌^◌, nat_lt, Bool, true, false, cond, List, Option, Some, None}
+use Rattle.std.specs.Prelude.{ℕ, ◌^◌, nat_lt, Bool, false, cond, List, Option, Some, None}
 use Rattle.std.specs.Prelude.{Result, Ok, Err}
 use Rattle.std.specs.Option.{option_map, option_and_then}
 use Rattle.hilti_base.specs.declared.names.Place.{Place}
 use Rattle.hilti_base.specs.declared.refusal.Refusal.{Refusal}
 use Rattle.hilti_base.specs.declared.refusal.Refusal.TheVariants.{At}
 use Rattle.hilti_types.specs.declared.declared.Declared.{Declared}
-use Rattle.hilti_types.specs.declared.value_type.ValueType.{ValueType, out-ValueType}
+use Rattle.hilti_types.specs.declared.value_type.ValueType.{ValueType}
 use Rattle.hilti_types.specs.declared.value_type.ValueType.TheVariants as types
 use Rattle.hilti_tree.specs.declared.tree.Tree.{Tree}
 use Rattle.hilti_module.specs.declared.types.Name.{Name}
@@ -32,7 +32,7 @@ use Rattle.hilti_parts.specs.declared.parts.Variable.TheVariants as variables
 use Rattle.hilti_parts.specs.Named.{given_kind}
 use Rattle.hilti_typing.specs.Context.{Known, variable_type}
 use Rattle.hilti_typing.specs.Fits.{known_type, known_part}
-use Rattle.hilti_typing.specs.Types.{plain_type, passes, is_int}
+use Rattle.hilti_typing.specs.Types.{plain_type, passes}
 use Rattle.hilti_operands.specs.Answers.{then_read, if_passes}
 use Rattle.hilti_row_types.specs.Same.{same_type}
 use Rattle.hilti_operands.specs.declared.own.Untyped.{Untyped}

@@ -1,6 +1,6 @@
 -- The test of types decides whether they are one.
-use Rattle.std.proofs.Common.{◌≡◌, ◌↔◌, ◌∙◌, ℕ, Bool, true, false, IsTrue, sym, refl, ap}
-use Rattle.std.specs.Prelude.{nat_eq, ◌&&◌}
+use Rattle.std.proofs.Common.{◌≡◌, ◌↔◌, ◌∙◌, Bool, true, false, IsTrue, sym, refl, ap}
+use Rattle.std.specs.Prelude.{◌&&◌}
 use Rattle.std.proofs.lemmas.Bool.{false≢true, eqb-true, eq-eqb}
 use base.Stored.{Gv, Gv.gnil, Gv.gnum, Gv.gcons}
 use Rattle.hilti_types.specs.declared.value_type.ValueType.{ValueType}

@@ -1,5 +1,5 @@
 -- Whether two types are the same, as a test.
-use Rattle.std.specs.Prelude.{ℕ, nat_eq, Bool, true, false, ◌&&◌}
+use Rattle.std.specs.Prelude.{nat_eq, Bool, true, false, ◌&&◌}
 use base.Stored.{Gv, Gv.gnil, Gv.gnum, Gv.gcons}
 use Rattle.hilti_types.specs.declared.value_type.ValueType.{ValueType}
 use Rattle.hilti_types.specs.contracts.value_type.ValueType as kinds

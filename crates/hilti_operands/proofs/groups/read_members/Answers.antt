@@ -1,4 +1,3 @@
-use Rattle.std.proofs.Common.{◌≡◌}
 use Rattle.hilti_operands.specs.Groups.{read_member}
 use Rattle.hilti_operands.specs.Seen.{line_seen}
 use Rattle.hilti_operands.proofs.Telling.{behind_none, member_next, member_stops, all_members}
