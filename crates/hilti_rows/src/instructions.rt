@@ -8,7 +8,6 @@ ghost use Rattle.hilti_rows.specs.Resolving.{called as called_of, bound as bound
 ghost use Rattle.hilti_rows.specs.Resolving.{jumps as jumps_of, branches as branches_of};
 ghost use Rattle.hilti_rows.specs.Resolving.{returned as returned_of, thrown as thrown_of};
 
-use crate::kinds::copy_type;
 use crate::names::{block_of, exception_of, function_of};
 use crate::numbers::{int_as, int_as_exact, of_numbers};
 use crate::row::{Binary, Printed, PrintedItems, Row, Unary};
@@ -16,6 +15,7 @@ use crate::sources::{group, source, together, two_sources};
 use crate::structs::{new_struct, struct_get, struct_is_set, struct_set, struct_unset};
 use hilti_base::NoMemory;
 use hilti_parts::{Instruction, Operand};
+use hilti_row_types::copy_type;
 use hilti_types::Op;
 use std::alloc::Global;
 

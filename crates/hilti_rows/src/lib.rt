@@ -2,7 +2,6 @@
 #![tactic(auto)]
 
 mod instructions;
-mod kinds;
 mod names;
 mod numbers;
 mod row;

@@ -8,10 +8,10 @@ use std::alloc::Global;
 
 /// A copy of a type.
 #[cycle(copy)]
-pub fn copy_type(alloc: Global, kind: &ValueType) -> Result<ValueType, NoMemory>
-    ensures { IfOk result (λ copied. copied ≡ kind.now) }
+pub fn copy_type(alloc: Global, t: &ValueType) -> Result<ValueType, NoMemory>
+    ensures { IfOk result (λ copied. copied ≡ t.now) }
 {
-    Ok(match kind {
+    Ok(match t {
         ValueType::Bool => ValueType::Bool,
         ValueType::Int { bits } => ValueType::Int { bits: *bits },
         ValueType::Text => ValueType::Text,
@@ -24,30 +24,32 @@ pub fn copy_type(alloc: Global, kind: &ValueType) -> Result<ValueType, NoMemory>
         ValueType::Callable => ValueType::Callable,
         ValueType::Enum { n } => ValueType::Enum { n: *n },
         ValueType::Tuple { parts } => ValueType::Tuple {
-            parts: copy_types(alloc, parts)?,
+            parts: copy_parts(alloc, parts)?,
         },
         ValueType::Iter { over } => ValueType::Iter {
-            over: copy_inner(alloc, over)?,
+            over: copy_object(alloc, over)?,
         },
         ValueType::Ref { to } => ValueType::Ref {
-            to: copy_inner(alloc, to)?,
+            to: copy_object(alloc, to)?,
         },
     })
 }
 
+/// Copies of types in their order.
 #[cycle(copy)]
-fn copy_types(alloc: Global, kinds: &ValueTypes) -> Result<ValueTypes, NoMemory>
-    ensures { IfOk result (λ copied. copied ≡ kinds.now) }
+pub fn copy_parts(alloc: Global, parts: &ValueTypes) -> Result<ValueTypes, NoMemory>
+    ensures { IfOk result (λ copied. copied ≡ parts.now) }
 {
     let mut copied = ValueTypes::new(alloc);
-    for kind in kinds.as_slice() {
-        copied.push(copy_type(alloc, kind)?)?;
+    for part in parts.as_slice() {
+        copied.push(copy_type(alloc, part)?)?;
     }
     Ok(copied)
 }
 
+/// A copy of the type of an object.
 #[cycle(copy)]
-fn copy_inner(alloc: Global, object: &Inner) -> Result<Inner, NoMemory>
+pub fn copy_object(alloc: Global, object: &Inner) -> Result<Inner, NoMemory>
     ensures { IfOk result (λ copied. copied ≡ object.now) }
 {
     Ok(match object {
@@ -55,29 +57,21 @@ fn copy_inner(alloc: Global, object: &Inner) -> Result<Inner, NoMemory>
         Inner::Manager => Inner::Manager,
         Inner::Struct { n } => Inner::Struct { n: *n },
         Inner::List { item } => Inner::List {
-            item: copy_boxed(alloc, item)?,
+            item: Boxed::new(alloc, copy_type(alloc, item.get())?)?,
         },
         Inner::Vector { item } => Inner::Vector {
-            item: copy_boxed(alloc, item)?,
+            item: Boxed::new(alloc, copy_type(alloc, item.get())?)?,
         },
         Inner::Set { item } => Inner::Set {
-            item: copy_boxed(alloc, item)?,
+            item: Boxed::new(alloc, copy_type(alloc, item.get())?)?,
         },
         Inner::Map { key, value } => Inner::Map {
-            key: copy_boxed(alloc, key)?,
-            value: copy_boxed(alloc, value)?,
+            key: Boxed::new(alloc, copy_type(alloc, key.get())?)?,
+            value: Boxed::new(alloc, copy_type(alloc, value.get())?)?,
         },
         Inner::Classifier { rule, value } => Inner::Classifier {
-            rule: copy_boxed(alloc, rule)?,
-            value: copy_boxed(alloc, value)?,
+            rule: Boxed::new(alloc, copy_type(alloc, rule.get())?)?,
+            value: Boxed::new(alloc, copy_type(alloc, value.get())?)?,
         },
     })
-}
-
-#[cycle(copy)]
-fn copy_boxed(alloc: Global, kind: &Boxed<ValueType>) -> Result<Boxed<ValueType>, NoMemory>
-    ensures { IfOk result (λ copied. copied ≡ kind.now) }
-{
-    let copied = copy_type(alloc, kind.get())?;
-    Ok(Boxed::new(alloc, copied)?)
 }

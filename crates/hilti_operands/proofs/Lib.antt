@@ -1,0 +1,6 @@
+pub mod Joining
+pub mod ReadGroups
+pub mod ReadNames
+pub mod ReadObjects
+pub mod ReadValues
+pub mod Telling

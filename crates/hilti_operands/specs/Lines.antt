@@ -1,0 +1,97 @@
+-- What the operands of a line stand for, one after another.
+use Rattle.std.specs.Prelude.{ℕ, Bool, true, false, cond, List, [], ◌∷◌}
+use Rattle.std.specs.Prelude.{Option, Some, None, Result, Ok}
+use Rattle.std.specs.Option.{option_or, option_and_then, unwrap_or}
+use Rattle.hilti_base.specs.declared.names.Place.{Place}
+use Rattle.hilti_base.specs.declared.refusal.Refusal.{Refusal}
+use Rattle.hilti_types.specs.declared.value_type.ValueType.{ValueType}
+use Rattle.hilti_module.specs.declared.module.Operand.{Operand as Written}
+use Rattle.hilti_module.specs.declared.module.Operand.TheVariants as written
+use Rattle.hilti_module.specs.declared.module.Simple.TheVariants as simples
+use Rattle.hilti_table.specs.declared.row.Kind.{Kind}
+use Rattle.hilti_table.specs.declared.row.Kind.TheVariants as kinds
+use Rattle.hilti_parts.specs.declared.parts.Operand.{Operand}
+use Rattle.hilti_typing.specs.Context.{Known}
+use Rattle.hilti_typing.specs.Fits.{learn, int_width}
+use Rattle.hilti_typing.specs.Types.{may_be_null}
+use Rattle.hilti_operands.specs.Answers.{then_read, refused}
+use Rattle.hilti_operands.specs.Operands.{read_operand}
+use Rattle.hilti_operands.specs.Seen.{BodySeen, LineSeen, setting}
+use Rattle.hilti_operands.specs.Values.{given, kind_given}
+
+-- operands of a line, and what is known behind them
+pub record Read : Type 0 where
+  pub operands : List Operand
+  pub known : Known
+
+abbrev pub in_front : Operand → Read → Read
+in_front x others = record { operands = x ∷ others.operands; known = others.known }
+
+-- the operands of a line, from left to right, each behind what those in front of it tell; there is
+-- one for each kind
+unfoldable pub read_all : LineSeen → List Kind → Known → List Written → Result Read Refusal
+read_all line [] known [] = Ok (record { operands = []; known = known })
+read_all line [] known (x ∷ more) = refused line.mnemonic 31
+read_all line (kind ∷ others) known [] = refused line.mnemonic 31
+read_all line (kind ∷ others) known (x ∷ more) =
+    then_read (read_operand line kind known x)
+    (λ (first : Operand). then_read
+    (read_all line others (learn (setting line) kind known first) more)
+    (λ (rest : Read). Ok (in_front first rest)))
+
+-- whether a kind asks for a value
+abbrev pub asks_value : Kind → Bool
+asks_value (kinds.Fixed plain) = true
+asks_value kinds.Sized = true
+asks_value (kinds.Part part) = true
+asks_value kinds.Same = true
+asks_value kinds.Returned = true
+asks_value (kinds.Own test) = true
+asks_value _ = false
+
+-- the type of an operand that is a variable, where a value is asked
+abbrev pub variable_written : BodySeen → Written → Option ValueType
+variable_written body (written.Simple (simples.Name name)) = kind_given (given body name)
+variable_written body _ = None
+
+abbrev pub written_type : BodySeen → Kind → Written → Option ValueType
+written_type body kind x = cond (asks_value kind) (variable_written body x) None
+
+-- what is picked of the first of these types that has it
+unfoldable pub first_picked :
+    {A : Type 0} → (ValueType → Option A) → BodySeen → List Kind → List Written → Option A
+first_picked pick body [] items = None
+first_picked pick body (kind ∷ others) [] = None
+first_picked pick body (kind ∷ others) (x ∷ more) =
+    option_or (option_and_then pick (written_type body kind x))
+    (first_picked pick body others more)
+
+abbrev pub width_in : ValueType → Option ℕ
+width_in kind = int_width (Some kind)
+
+abbrev pub null_in : ValueType → Option ValueType
+null_in kind = cond (may_be_null kind) (Some kind) None
+
+-- the width of a line: that of the first operand that is a variable of an int type, else that of
+-- the target, else 64
+abbrev pub written_width : BodySeen → Option ValueType → List Kind → List Written → ℕ
+written_width body target kinds items =
+    unwrap_or (option_or (first_picked width_in body kinds items) (int_width target)) 64
+
+-- the type of Null where no other is asked: that of the first operand that is a variable of a type
+-- with Null, else that of the target
+abbrev pub written_null :
+    BodySeen → Option ValueType → List Kind → List Written → Option ValueType
+written_null body target kinds items =
+    option_or (first_picked null_in body kinds items) target
+
+-- a line with these operands
+abbrev pub line_with :
+    BodySeen → Place → Option ValueType → List Kind → List Written → LineSeen
+line_with body mnemonic target kinds items = record {
+  body = body;
+  mnemonic = mnemonic;
+  target = target;
+  width = written_width body target kinds items;
+  null = written_null body target kinds items;
+}
