@@ -2,11 +2,12 @@
 ghost use Rattle.std.specs.Prelude.{◌≡◌, IfOk, length};
 ghost use Rattle.hilti_runnable.specs.Typing.{AreShort, HasShortLists};
 
-use crate::{
-    Block, Blocks, Exceptions, Function, Functions, Globals, Handlers, Hooks, Instruction,
-    Instructions, Operand, Operands, Parts, Program, Slots, Variable,
-};
+use crate::Program;
 use hilti_base::{Blob, FnId, NoMemory};
+use hilti_parts::{
+    Block, Blocks, Exceptions, Function, Functions, Globals, Handlers, Hooks, Instruction,
+    Instructions, Operand, Operands, Parts, Slots, Variable,
+};
 use hilti_types::{Op, TypeTable, ValueType};
 use std::alloc::Global;
 use std::test::Fail;
