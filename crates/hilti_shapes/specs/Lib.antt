@@ -1,0 +1,5 @@
+pub mod Needs
+pub mod Objects
+pub mod TypedRows
+pub mod Places
+pub mod Keeping
