@@ -1,4 +1,6 @@
 pub mod Growing
+pub mod Lines
 pub mod Numbers
+pub mod Sources
 pub mod Stores
 pub mod Values

@@ -7,7 +7,7 @@ use Rattle.std.proofs.lemmas.Bool.Decides.{nat_tests}
 use Rattle.hilti_types.specs.declared.declared.Declared.{Declared}
 use Rattle.hilti_types.specs.declared.value_type.Inner.{Inner}
 use Rattle.hilti_types.specs.declared.value_type.Inner.TheOpen.{ValueType-F}
-use Rattle.hilti_types.specs.declared.value_type.ValueType.{ValueType, out-ValueType, out-roll-ValueType}
+use Rattle.hilti_types.specs.declared.value_type.ValueType.{ValueType, out-ValueType, roll-ValueType, out-roll-ValueType}
 use Rattle.hilti_types.specs.declared.value_type.ValueType.TheVariants as types
 use Rattle.hilti_values.specs.declared.value.Value.{Value, out-Value, roll-Value}
 use Rattle.hilti_values.specs.declared.value.Value.TheVariants as values
@@ -40,6 +40,13 @@ module _ (table : List Declared) where
   needs_roll x t =
       let e : needs table (roll-Value x) ≡ needs_step table (map-Value Value (ValueType → Needs) (needs table) x) = search (rules, the_lemmas) in
       ap (λ (f : ValueType → Needs). f t) e
+
+  -- what a value of a shape needs of a type of a shape
+  pub shape_needs : (x : Value-F Value) (v : Value) (shape : ValueType-F Inner ValueType) (t : ValueType) → roll-Value x ≡ v → roll-ValueType shape ≡ t
+      → needs table v t ≡ needs_shape table (map-Value Value (ValueType → Needs) (needs table) x) shape
+  shape_needs x v shape t e f =
+      ap (λ v. needs table v t) (sym e) ∙ needs_roll x t
+      ∙ ap (needs_shape table (map-Value Value (ValueType → Needs) (needs table) x)) (ap out-ValueType (sym f) ∙ out-roll-ValueType shape)
 
   back : (v : Value) → roll-Value (out-Value v) ≡ v
   back v = search (rules, the_lemmas)
