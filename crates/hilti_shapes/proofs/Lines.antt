@@ -101,7 +101,7 @@ struct_named : (n : ℕ) (o : Inner) → struct_number o ≡ Some n → o ≡ in
 struct_named n o = subst (λ x. struct_number x ≡ Some n → x ≡ inners.Struct n) (roll-out-Inner o) (struct_shape n (out-Inner o))
 
 module _ (c : Context) where
-  at_target : (target : Option Variable) (kind : Option ValueType) → HasTarget c target kind → (v : Variable) (t : ValueType) → target ≡ Some v → kind ≡ Some t → IsTarget c v t
+  pub at_target : (target : Option Variable) (kind : Option ValueType) → HasTarget c target kind → (v : Variable) (t : ValueType) → target ≡ Some v → kind ≡ Some t → IsTarget c v t
   at_target None kind is v t e f = absurd cc
   at_target (Some w) None is v t e f = absurd is
   at_target (Some w) (Some u) is v t e f = subst (λ w. IsTarget c w t) (same_Some w v e) (is ∙ f)
@@ -112,7 +112,7 @@ module _ (c : Context) where
   no_target (Some w) (Some u) is v e f = cc
 
   module _ (target : Option Variable) (kind : Option ValueType) (is : HasTarget c target kind) where
-    unary_row : (op : Unary) (from to : ValueType) (items : List Operand) (row : Row) (o : Option Variable) → target ≡ o → Turns op from to → HaveAll c (from ∷ []) items → kind ≡ Some to → unary op o items ≡ Some row → IsRow c row
+    pub unary_row : (op : Unary) (from to : ValueType) (items : List Operand) (row : Row) (o : Option Variable) → target ≡ o → Turns op from to → HaveAll c (from ∷ []) items → kind ≡ Some to → unary op o items ≡ Some row → IsRow c row
     unary_row op from to (a ∷ []) row (Some v) f turns h k e =
         let m = mapped (rows.Unary op v) (source_of a) row e in
         subst (IsRow c) m.2 (record { from = from; to = to; turns = turns; operand = source_is c from m.0 a h.0 m.1; goes = at_target target kind is v to f k })
@@ -120,7 +120,7 @@ module _ (c : Context) where
     unary_row op from to (a ∷ b ∷ more) row o f turns h k e = absurd h.1
     unary_row op from to (a ∷ []) row None f turns h k e = absurd cc
 
-    binary_row : (op : Binary) (of to : ValueType) (items : List Operand) (row : Row) (o : Option Variable) → target ≡ o → Combines op of to → HaveAll c (of ∷ of ∷ []) items → kind ≡ Some to → binary op o items ≡ Some row → IsRow c row
+    pub binary_row : (op : Binary) (of to : ValueType) (items : List Operand) (row : Row) (o : Option Variable) → target ≡ o → Combines op of to → HaveAll c (of ∷ of ∷ []) items → kind ≡ Some to → binary op o items ≡ Some row → IsRow c row
     binary_row op of to (a ∷ b ∷ []) row (Some v) f combines h k e =
         let m = both_are (rows.Binary op v) (source_of a) (source_of b) row e in
         subst (IsRow c) m.4 (record { of = of; to = to; combines = combines; first = source_is c of m.0 a h.0 m.2; second = source_is c of m.1 b h.1.0 m.3; goes = at_target target kind is v to f k })
@@ -129,27 +129,27 @@ module _ (c : Context) where
     binary_row op of to (a ∷ b ∷ d ∷ more) row o f combines h k e = absurd h.1.1
     binary_row op of to (a ∷ b ∷ []) row None f combines h k e = absurd cc
 
-    sized_row : (op : IntOp) (n : ℕ) (items : List Operand) (row : Row) → HaveAll c (types.Int n ∷ types.Int n ∷ []) items → kind ≡ Some (types.Int n)
+    pub sized_row : (op : IntOp) (n : ℕ) (items : List Operand) (row : Row) → HaveAll c (types.Int n ∷ types.Int n ∷ []) items → kind ≡ Some (types.Int n)
         → option_and_then (λ w. binary (binaries.Int op w) target items) (width n) ≡ Some row → IsRow c row
     sized_row op n items row h k e =
         let m = behind (λ w. binary (binaries.Int op w) target items) (width n) row e in
         let i = ap types.Int (width_is n m.0 m.1) in
         binary_row (binaries.Int op m.0) (types.Int n) (types.Int n) items row target refl (i, i) h k m.2
 
-    compared_row : (op : IntCmp) (n : ℕ) (items : List Operand) (row : Row) → HaveAll c (types.Int n ∷ types.Int n ∷ []) items → kind ≡ Some types.Bool
+    pub compared_row : (op : IntCmp) (n : ℕ) (items : List Operand) (row : Row) → HaveAll c (types.Int n ∷ types.Int n ∷ []) items → kind ≡ Some types.Bool
         → option_and_then (λ w. binary (binaries.Compare op w) target items) (width n) ≡ Some row → IsRow c row
     compared_row op n items row h k e =
         let m = behind (λ w. binary (binaries.Compare op w) target items) (width n) row e in
         binary_row (binaries.Compare op m.0) (types.Int n) types.Bool items row target refl (ap types.Int (width_is n m.0 m.1), refl) h k m.2
 
-    converted_row : (op : Width → Unary) → ((w : Width) (bits : ℕ) → Turns (op w) (types.Int bits) (types.Int (bits_of w))) → (bits n : ℕ) (items : List Operand) (row : Row) → HaveAll c (types.Int bits ∷ []) items → kind ≡ Some (types.Int n)
+    pub converted_row : (op : Width → Unary) → ((w : Width) (bits : ℕ) → Turns (op w) (types.Int bits) (types.Int (bits_of w))) → (bits n : ℕ) (items : List Operand) (row : Row) → HaveAll c (types.Int bits ∷ []) items → kind ≡ Some (types.Int n)
         → option_and_then (λ w. unary (op w) target items) (option_and_then width (int_width kind)) ≡ Some row → IsRow c row
     converted_row op turns bits n items row h k e =
         let m = behind (λ w. unary (op w) target items) (option_and_then width (int_width kind)) row e in
         let i : width n ≡ Some m.0 = ap (λ o. option_and_then width (int_width o)) (sym k) ∙ m.1 in
         unary_row (op m.0) (types.Int bits) (types.Int (bits_of m.0)) items row target refl (turns m.0 bits) h (k ∙ ap (λ n. Some (types.Int n)) (width_is n m.0 i)) m.2
 
-    selected_row : (of : ValueType) (items : List Operand) (row : Row) (o : Option Variable) → target ≡ o → HaveAll c (types.Bool ∷ of ∷ of ∷ []) items → kind ≡ Some of → selected o items ≡ Some row → IsRow c row
+    pub selected_row : (of : ValueType) (items : List Operand) (row : Row) (o : Option Variable) → target ≡ o → HaveAll c (types.Bool ∷ of ∷ of ∷ []) items → kind ≡ Some of → selected o items ≡ Some row → IsRow c row
     selected_row of (test ∷ a ∷ b ∷ []) row (Some v) f h k e =
         let m = behind _ (source_of test) row e in
         let n = both_are (rows.Select v m.0) (source_of a) (source_of b) row m.2 in
@@ -160,7 +160,7 @@ module _ (c : Context) where
     selected_row of (test ∷ a ∷ b ∷ d ∷ more) row o f h k e = absurd h.1.1.1
     selected_row of (test ∷ a ∷ b ∷ []) row None f h k e = absurd cc
 
-    tested_row : (of : ValueType) (items : List Operand) (row : Row) (o : Option Variable) → target ≡ o → HaveAll c (of ∷ []) items → kind ≡ Some types.Bool → tested o items ≡ Some row → IsRow c row
+    pub tested_row : (of : ValueType) (items : List Operand) (row : Row) (o : Option Variable) → target ≡ o → HaveAll c (of ∷ []) items → kind ≡ Some types.Bool → tested o items ≡ Some row → IsRow c row
     tested_row of (a ∷ []) row (Some v) f h k e =
         let m = mapped (rows.IsNull v) (source_of a) row e in
         subst (IsRow c) m.2 (record { of = of; operand = source_is c of m.0 a h.0 m.1; goes = at_target target kind is v types.Bool f k })
@@ -183,14 +183,14 @@ module _ (c : Context) where
         takes None e may = absurd (no_target target kind is v f e)
         takes (Some t) e may = subst (λ r. IsSomeAnd r (IsTarget c v)) (sym may) (at_target target kind is v t f e)
 
-    called_row : (x group : Operand) (args : List Operand) (s : Signature) (row : Row) → callee c x ≡ Some s → grouped group ≡ Some args → HaveAll c s.parameters args → MayTake kind s.result
+    pub called_row : (x group : Operand) (args : List Operand) (s : Signature) (row : Row) → callee c x ≡ Some s → grouped group ≡ Some args → HaveAll c s.parameters args → MayTake kind s.result
         → called target (x ∷ group ∷ []) ≡ Some row → IsRow c row
     called_row x group args s row find g h may e =
         let m = both_are (λ f arguments. rows.Call f arguments target) (function x) (grouped_sources group) row e in
         subst (IsRow c) m.4 (subst (λ o. IsSomeAnd o (IsCall c m.1 target)) (sym (callee_is x m.0 s m.2 find))
             (record { given = given group args m.1 s.parameters g h m.3; receives = receives target s.result refl may }))
 
-    bound_row : (x group : Operand) (args : List Operand) (s : Signature) (row : Row) (o : Option Variable) → target ≡ o → callee c x ≡ Some s → grouped group ≡ Some args → HaveAll c s.parameters args → s.result ≡ None
+    pub bound_row : (x group : Operand) (args : List Operand) (s : Signature) (row : Row) (o : Option Variable) → target ≡ o → callee c x ≡ Some s → grouped group ≡ Some args → HaveAll c s.parameters args → s.result ≡ None
         → kind ≡ Some types.Callable → bound o (x ∷ group ∷ []) ≡ Some row → IsRow c row
     bound_row x group args s row (Some v) f find g h void k e =
         let m = both_are (rows.Bind v) (function x) (grouped_sources group) row e in
@@ -198,7 +198,7 @@ module _ (c : Context) where
             (record { void = void; given = given group args m.1 s.parameters g h m.3; goes = at_target target kind is v types.Callable f k }))
     bound_row x group args s row None f find g h void k e = absurd cc
 
-    new_row : (word : Operand) (o : Inner) (row : Row) (t : Option Variable) → target ≡ t → made word ≡ Some o → kind ≡ Some (types.Ref o) → new_struct t (word ∷ []) ≡ Some row → IsRow c row
+    pub new_row : (word : Operand) (o : Inner) (row : Row) (t : Option Variable) → target ≡ t → made word ≡ Some o → kind ≡ Some (types.Ref o) → new_struct t (word ∷ []) ≡ Some row → IsRow c row
     new_row word o row (Some v) f names k e =
         let m = mapped (λ n. rows.Struct (structs.New v n)) (declared_struct word) row e in
         let n : struct_number o ≡ Some m.0 = sym (ap (option_and_then struct_number) names) ∙ m.1 in
@@ -209,7 +209,7 @@ module _ (c : Context) where
   same_fields n = ap (fields_of c.declared) (sym (inners.rolls-Struct n)) ∙ ap (fields_of_shape c.declared) (out-roll-Inner (Inner-F.Struct n))
 
   -- a field that a line names
-  field_is : (s : Setting) (more items : List Operand) (f : FieldOfStruct more s items) → s.context ≡ c → (o : Source) (at : ℕ) → source_of f.holder ≡ Some o → field_number f.name ≡ Some at → (i : IsField c o at) × (i.kind ≡ f.kind)
+  pub field_is : (s : Setting) (more items : List Operand) (f : FieldOfStruct more s items) → s.context ≡ c → (o : Source) (at : ℕ) → source_of f.holder ≡ Some o → field_number f.name ≡ Some at → (i : IsField c o at) × (i.kind ≡ f.kind)
   field_is s more items f same o at e n =
       let there : slice_get (field_types c.declared f.struct_number) f.at ≡ Some f.kind =
           slice_get-map (λ (m : Member). m.kind) (struct_fields (slice_get c.declared f.struct_number)) f.at
@@ -236,7 +236,7 @@ module _ (c : Context) where
       let m = behind (printed_with (given_kind x)) (source_of x) item e in
       printed_given x m.0 item (given_kind x) refl m.1 m.2 asks
 
-  printed_items : (xs : List Operand) (items : List Printed) → AllByRecursion (AsksOwn c tests.Sendable) xs → each_of printed_of xs ≡ Some items → AllByRecursion (λ (item : Printed). IsSource c item.value item.kind) items
+  pub printed_items : (xs : List Operand) (items : List Printed) → AllByRecursion (AsksOwn c tests.Sendable) xs → each_of printed_of xs ≡ Some items → AllByRecursion (λ (item : Printed). IsSource c item.value item.kind) items
   printed_items [] items h e = subst (AllByRecursion (λ (item : Printed). IsSource c item.value item.kind)) (same_Some [] items e) tt
   printed_items (x ∷ xs) items h e =
       let a = behind (λ y. option_map (λ ys. y ∷ ys) (each_of printed_of xs)) (printed_of x) items e in
@@ -247,23 +247,23 @@ module _ (c : Context) where
   block_below : (x : Operand) (n : ℕ) → named_block x ≡ Some n → IsSomeAnd (named_block x) (λ n. n < c.blocks) → n < c.blocks
   block_below x n e h = subst (λ o. IsSomeAnd o (λ n. n < c.blocks)) e h
 
-  jump_row : (x : Operand) (row : Row) → IsSomeAnd (named_block x) (λ n. n < c.blocks) → jumps (x ∷ []) ≡ Some row → IsRow c row
+  pub jump_row : (x : Operand) (row : Row) → IsSomeAnd (named_block x) (λ n. n < c.blocks) → jumps (x ∷ []) ≡ Some row → IsRow c row
   jump_row x row h e = let m = mapped rows.Jump (named_block x) row e in subst (IsRow c) m.2 (block_below x m.0 m.1 h)
 
-  branch_row : (test x y : Operand) (row : Row) → Fit c types.Bool test → IsSomeAnd (named_block x) (λ n. n < c.blocks) → IsSomeAnd (named_block y) (λ n. n < c.blocks) → branches (test ∷ x ∷ y ∷ []) ≡ Some row → IsRow c row
+  pub branch_row : (test x y : Operand) (row : Row) → Fit c types.Bool test → IsSomeAnd (named_block x) (λ n. n < c.blocks) → IsSomeAnd (named_block y) (λ n. n < c.blocks) → branches (test ∷ x ∷ y ∷ []) ≡ Some row → IsRow c row
   branch_row test x y row t h g e =
       let m = behind _ (source_of test) row e in
       let n = both_are (rows.IfElse m.0) (named_block x) (named_block y) row m.2 in
       subst (IsRow c) n.4 (record { condition = source_is c types.Bool m.0 test t m.1; first = block_below x n.0 n.2 h; second = block_below y n.1 n.3 g })
 
-  result_row : (kind : ValueType) (items : List Operand) (row : Row) → c.result ≡ Some kind → HaveAll c (kind ∷ []) items → returned items ≡ Some row → IsRow c row
+  pub result_row : (kind : ValueType) (items : List Operand) (row : Row) → c.result ≡ Some kind → HaveAll c (kind ∷ []) items → returned items ≡ Some row → IsRow c row
   result_row kind (x ∷ []) row r h e =
       let m = mapped rows.ReturnResult (source_of x) row e in
       subst (IsRow c) m.2 (subst (λ o. IsSomeAnd o (IsSource c m.0)) (sym r) (source_is c kind m.0 x h.0 m.1))
   result_row kind [] row r h e = absurd h
   result_row kind (x ∷ y ∷ more) row r h e = absurd h.1
 
-  throw_row : (exception text : Operand) (row : Row) → IsSomeAnd (exception_number exception) (λ n. n < c.exceptions) → Fit c types.Text text → thrown (exception ∷ text ∷ []) ≡ Some row → IsRow c row
+  pub throw_row : (exception text : Operand) (row : Row) → IsSomeAnd (exception_number exception) (λ n. n < c.exceptions) → Fit c types.Text text → thrown (exception ∷ text ∷ []) ≡ Some row → IsRow c row
   throw_row exception text row h t e =
       let m = both_are rows.Throw (exception_number exception) (source_of text) row e in
       subst (IsRow c) m.4 (record { there = subst (λ o. IsSomeAnd o (λ n. n < c.exceptions)) m.2 h; of_text = source_is c types.Text m.1 text t m.3 })
