@@ -1,6 +1,8 @@
 pub mod Growing
 pub mod Lines
 pub mod Numbers
+pub mod Places
+pub mod Scalars
 pub mod Sources
 pub mod Stores
 pub mod TypedLines
