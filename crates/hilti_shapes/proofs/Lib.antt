@@ -1,3 +1,4 @@
+pub mod Fields
 pub mod Growing
 pub mod Lines
 pub mod Numbers
@@ -5,5 +6,6 @@ pub mod Places
 pub mod Scalars
 pub mod Sources
 pub mod Stores
+pub mod Texts
 pub mod TypedLines
 pub mod Values

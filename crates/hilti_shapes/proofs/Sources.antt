@@ -48,7 +48,7 @@ both_are f (Some x) None y e = absurd cc
 both_are f (Some x) (Some z) y e = (x, z, refl, refl, same_Some (f x z) y e)
 
 -- what is so of each shape of a type is so of each type
-by_type : (P : ValueType → Type 0) → ((shape : ValueType-F Inner ValueType) → P (roll-ValueType shape)) → (t : ValueType) → P t
+pub by_type : (P : ValueType → Type 0) → ((shape : ValueType-F Inner ValueType) → P (roll-ValueType shape)) → (t : ValueType) → P t
 by_type P f t = subst P (roll-out-ValueType t) (f (out-ValueType t))
 
 module _ (table : List Declared) where

@@ -52,7 +52,7 @@ module _ (table : List Declared) where
   back v = search (rules, the_lemmas)
 
   -- what is so of each shape that has a type is so of each value that has it
-  by_shape : (k : Kinds) (P : Value → Type 0) (t : ValueType) (shape : ValueType-F Inner ValueType) → out-ValueType t ≡ shape
+  pub by_shape : (k : Kinds) (P : Value → Type 0) (t : ValueType) (shape : ValueType-F Inner ValueType) → out-ValueType t ≡ shape
       → ((x : Value-F Value) → IsSomeAnd (needs_shape table (map-Value Value (ValueType → Needs) (needs table) x) shape) (Meets k) → P (roll-Value x))
       → (v : Value) → Has table k v t → P v
   by_shape k P t shape e f v h =
