@@ -1,3 +1,6 @@
+pub mod Chains
+pub mod Endings
+pub mod Entering
 pub mod Fields
 pub mod Growing
 pub mod Lines
