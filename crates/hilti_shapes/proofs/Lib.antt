@@ -1,3 +1,4 @@
+pub mod Asking
 pub mod Chains
 pub mod Endings
 pub mod Entering
@@ -6,6 +7,7 @@ pub mod Growing
 pub mod Lines
 pub mod Numbers
 pub mod Places
+pub mod Raising
 pub mod Scalars
 pub mod Sources
 pub mod Stores
