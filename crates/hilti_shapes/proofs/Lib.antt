@@ -1,3 +1,4 @@
+pub mod Acting
 pub mod Asking
 pub mod Chains
 pub mod Endings
