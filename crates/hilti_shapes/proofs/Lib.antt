@@ -3,6 +3,7 @@ pub mod Asking
 pub mod Chains
 pub mod Endings
 pub mod Entering
+pub mod Examples
 pub mod Fields
 pub mod Growing
 pub mod Lines

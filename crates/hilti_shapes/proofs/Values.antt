@@ -82,6 +82,9 @@ module _ (table : List Declared) where
   out_callable : out-ValueType types.Callable ≡ ValueType-F.Callable
   out_callable = ap out-ValueType (sym types.rolls-Callable) ∙ out-roll-ValueType ValueType-F.Callable
 
+  pub has_null : (k : Kinds) (to : Inner) → Has table k values.Null (types.Ref to)
+  has_null k to = subst (λ v. Has table k v (types.Ref to)) values.rolls-Null (of_shape k Value-F.Null (types.Ref to) (ValueType-F.Ref to) (out_ref to) tt)
+
   -- values that have a type
   pub has_bool : (k : Kinds) (b : Bool) → Has table k (values.Bool b) types.Bool
   has_bool k b = subst (λ v. Has table k v types.Bool) (values.rolls-Bool b) (of_shape k (Value-F.Bool b) types.Bool ValueType-F.Bool out_bool tt)

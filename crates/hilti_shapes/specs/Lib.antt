@@ -3,3 +3,4 @@ pub mod Objects
 pub mod TypedRows
 pub mod Places
 pub mod Keeping
+pub mod Examples

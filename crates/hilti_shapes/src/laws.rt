@@ -1,5 +1,6 @@
 //! Laws of calls of typed programs. They do nothing: a caller learns what they ensure.
 ghost use Rattle.hilti_parts.specs.declared.parts.Parts.{Parts};
+ghost use Rattle.hilti_shapes.specs.Examples.{TypedBeginning, UntypedBeginnings, TypedValues};
 ghost use Rattle.hilti_shapes.specs.Keeping.{FindWhatRowsAsk, ActsKeepTypes, ReturnsKeepTypes};
 ghost use Rattle.hilti_shapes.specs.Keeping.{EntriesAreTyped, FreshThreadsAreTyped};
 ghost use Rattle.hilti_shapes.specs.Places.{IsTypedProgram};
@@ -26,4 +27,12 @@ pub fn returns_keep_types()
 pub fn beginnings_are_typed()
     ensures entries { (parts : Parts) → IsTypedProgram parts → EntriesAreTyped parts }
     ensures threads { (parts : Parts) → IsTypedProgram parts → FreshThreadsAreTyped parts }
+{}
+
+/// A call that begins is typed, and isn't with a value of another type in a global, with a slot too few, behind its last
+/// instruction, or with arguments that are half made. Numbers and references have the types that they fit.
+pub fn examples()
+    ensures typed { TypedBeginning }
+    ensures untyped { UntypedBeginnings }
+    ensures values { TypedValues }
 {}
