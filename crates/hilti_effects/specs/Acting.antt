@@ -1,5 +1,5 @@
 -- What a frame does next, and what it does with what its callee ended with.
-use Rattle.std.specs.Prelude.{◌≡◌, ℕ, ◌+◌, Bool, true, false, cond, List, [], ◌∷◌, ◌++◌, map, drop}
+use Rattle.std.specs.Prelude.{ℕ, ◌+◌, Bool, true, false, cond, List, [], ◌∷◌, ◌++◌, map, drop}
 use Rattle.std.specs.Prelude.{length, Option, Some, None, slice_get, Result, Ok, Err}
 use Rattle.std.specs.Option.{option_and_then}
 use Rattle.hilti_base.specs.declared.names.FnId.{FnId}
@@ -24,7 +24,6 @@ use Rattle.hilti_rows.specs.declared.row.Row.{Row}
 use Rattle.hilti_rows.specs.declared.row.Row.TheVariants as rows
 use Rattle.hilti_rows.specs.declared.row.StructRow.{StructRow}
 use Rattle.hilti_rows.specs.declared.row.StructRow.TheVariants as structs
-use Rattle.hilti_rows.specs.declared.row.Source.{Source}
 use Rattle.hilti_rows.specs.Resolving.{row_of}
 use Rattle.hilti_scalar_ops.specs.Computing.{truth_of, unary_of, binary_of}
 use Rattle.hilti_scalar_ops.specs.declared.computing.Made.{Made}

@@ -1,6 +1,6 @@
 -- What a row asks of the values and the objects that it meets. Typing gives it, and no row is done
 -- without it.
-use Rattle.std.specs.Prelude.{◌≡◌, ℕ, ◌<◌, List, length, Option, Some, None, IfSome, IsSome}
+use Rattle.std.specs.Prelude.{◌≡◌, ℕ, ◌<◌, List, length, Some, IsSome}
 use Rattle.std.specs.Prelude.{slice_get}
 use Rattle.std.specs.List.{All}
 use Rattle.std.specs.Option.{option_map}
@@ -116,8 +116,8 @@ HasSlots parts p slots =
 
 -- a function at a row that has what it asks
 pub record Ready (parts : Parts) (p : Position) (slots globals : List Value) (h : Kept) : Type 0
-    where
-  pub row : Row
-  pub here : row_at parts p ≡ Some row
-  pub asks : Asks parts slots globals h row
-  pub slots_are : HasSlots parts p slots
+  where
+    pub row : Row
+    pub here : row_at parts p ≡ Some row
+    pub asks : Asks parts slots globals h row
+    pub slots_are : HasSlots parts p slots

@@ -1,5 +1,5 @@
 -- What a call does on a thread, after the calls that the thread ran before.
-use Rattle.std.specs.Prelude.{◌≡◌, ℕ, Bool, true, false, List, [], ◌∷◌, ◌++◌, map, position, Option}
+use Rattle.std.specs.Prelude.{ℕ, Bool, true, false, List, [], ◌∷◌, ◌++◌, map, Option}
 use Rattle.std.specs.Prelude.{Some, None, slice_get, codes}
 use Rattle.hilti_base.specs.declared.names.FnId.{FnId}
 use Rattle.hilti_tree.specs.declared.call.Call.{Call as Called}
@@ -18,7 +18,7 @@ use Rattle.hilti_core.specs.declared.pieces.End.{End}
 use Rattle.hilti_core.specs.declared.pieces.End.TheVariants as ends
 use Rattle.hilti_program.specs.Programs.{named}
 use Rattle.hilti_stack.specs.Frames.{Frame}
-use Rattle.hilti_calls.specs.Calls.{Back, Back.Out, Outcome, Outcome.Ended, Outcome.Spent}
+use Rattle.hilti_calls.specs.Calls.{Back, Back.Out, Outcome.Ended, Outcome.Spent}
 use Rattle.hilti_calls.specs.Stack.{Pending, rest}
 use Rattle.hilti_calls.specs.Parts.{Part, Closing, parts_of}
 use Rattle.hilti_values.specs.Literals.{value_of}

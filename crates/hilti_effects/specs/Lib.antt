@@ -5,3 +5,4 @@ pub mod Printing
 pub mod Acting
 pub mod Asks
 pub mod Effect
+pub mod Laws

@@ -1,5 +1,5 @@
 -- What `print` shows: the texts of the trees of values.
-use Rattle.std.specs.Prelude.{ℕ, nat_lt, List, [], map, codes, if◌then◌else◌, Result, Ok, Err}
+use Rattle.std.specs.Prelude.{ℕ, nat_lt, List, map, codes, if◌then◌else◌, Result, Ok, Err}
 use Rattle.std.specs.List.{join_by}
 use Rattle.hilti_base.specs.declared.refusal.Raise.{Raise}
 use Rattle.hilti_base.specs.declared.refusal.Raise.TheVariants.{ValueError}

@@ -1,5 +1,5 @@
 -- A thread between instructions, and what its calls leave behind on their way.
-use Rattle.std.specs.Prelude.{ℕ, Bool, List, Option, Some, None}
+use Rattle.std.specs.Prelude.{ℕ, Bool, List, Option}
 use Rattle.hilti_core.specs.declared.pieces.Item.{Item}
 use Rattle.hilti_core.specs.declared.pieces.End.{End}
 use Rattle.hilti_values.specs.declared.value.Value.{Value}

@@ -2,5 +2,6 @@
 #![tactic(auto)]
 
 mod ending;
+pub mod laws;
 
 pub use ending::Ending;

@@ -9,11 +9,11 @@ use Rattle.hilti_values.specs.declared.value.Value.{Value}
 use Rattle.hilti_values.specs.declared.value.Value.TheVariants.{Ref}
 use Rattle.hilti_heap.specs.declared.cells.Cell.{Cell}
 use Rattle.hilti_heap.specs.declared.object.Object.{Object}
-use Rattle.hilti_heap.specs.Cells.{Cells, inner_at, object_at}
+use Rattle.hilti_heap.specs.Cells.{Cells, count_at, inner_at, times_at, object_at}
 use Rattle.hilti_heap.specs.Changed.{with_object}
 use Rattle.hilti_heap.specs.Held.{part, held, object_held}
 use Rattle.hilti_heap.specs.Kept.{Kept, Covers, AreKept, Holds, Releases, Changes}
-use Rattle.hilti_heap.specs.Stands.{StandsFor, Goes, Creates}
+use Rattle.hilti_heap.specs.Stands.{StandsFor, Fits, Goes, Creates}
 use Rattle.hilti_heap.specs.Stores.{Store, Answer.Done, Answer.Raised}
 use Rattle.hilti_heap.specs.Stores.{added, changed, create, change, told}
 use Rattle.hilti_heap.proofs.Heaping.{with_here, with_there}
@@ -217,6 +217,24 @@ pub keeps_by : {X E : Type 0} (r : Result X E) (h : Kept) (s : ℕ) (now then : 
     → OnErr r (then ≡ now) → OnErr r (with_object h s then ≡ h)
 keeps_by r h s now then value keeps err =
     on_err r (λ t. ap (with_object h s) t ∙ keeps now (sym value)) err
+
+-- counts that fit cover what others hold
+pub fits_covers : (h : Kept) (n : ℕ → ℕ) → Fits h n → Covers h n
+fits_covers h n fit = record { each = λ s. let e = fit.count s in omega arith }
+
+-- a heap without objects stands for a store without objects, and its counts fit where nothing is held
+pub empty_stands : (h : Kept) → h.cells ≡ []
+    → StandsFor h (record { next = h.next; object = λ s. None })
+empty_stands h e = record {
+  next = refl;
+  same = λ s o there. absurd (let d = ap (object_at s) e in cc (d, there));
+}
+
+pub empty_fits : (h : Kept) → h.cells ≡ [] → Fits h (λ s. 0)
+empty_fits h e = record {
+  count = λ s. let c = ap (count_at s) e in let i = ap (inner_at s) e in omega arith;
+  alive = λ s t. let d = ap (times_at s) e in absurd (omega arith);
+}
 
 -- what the counts cover is kept
 pub covers_kept : (h : Kept) (m k : ℕ → ℕ) → Covers h m → ((s : ℕ) → k s ≤ m s) → AreKept h k

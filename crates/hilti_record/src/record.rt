@@ -5,6 +5,7 @@ ghost use Rattle.std.specs.Option.{option_copied};
 use hilti_base::NoMemory;
 use std::alloc::Global;
 use std::marker::Model;
+use std::mem;
 
 /// Fields in order, each with an item or unset. Contracts see the list of the fields.
 #[derive(Debug, Drop)]
@@ -43,22 +44,13 @@ impl<T: Drop> Record<T> {
         self.fields[at] = Some(item);
     }
 
-    /// Gives a field an item, and returns what it had before.
-    pub fn replace(&mut self, at: usize, item: T) -> Option<T>
+    /// Gives a field other content, an item or none, and returns what it had before.
+    pub fn replace(&mut self, at: usize, content: Option<T>) -> Option<T>
         requires { at < length self.old }
         ensures before { slice_get self.old at ≡ Some result }
-        ensures after { self.new ≡ slice_set self.old at (Some item) }
+        ensures after { self.new ≡ slice_set self.old at content }
     {
-        self.fields[at].replace(item)
-    }
-
-    /// Makes a field unset, and returns what it had.
-    pub fn take(&mut self, at: usize) -> Option<T>
-        requires { at < length self.old }
-        ensures before { slice_get self.old at ≡ Some result }
-        ensures after { self.new ≡ slice_set self.old at None }
-    {
-        self.fields[at].take()
+        mem::replace(&mut self.fields[at], content)
     }
 
     /// Makes a field unset. An item that was there is dropped.

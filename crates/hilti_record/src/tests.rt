@@ -11,9 +11,9 @@ fn sets_and_unsets(rt: HostRuntime) -> Result<(), Fail> {
     assert_eq!(rt; record.get(1), Some(&7));
     record.set(1, 8);
     assert_eq!(rt; record.get(1), Some(&8));
-    assert_eq!(rt; record.replace(1, 9), Some(8));
-    assert_eq!(rt; record.take(1), Some(9));
-    assert_eq!(rt; record.take(1), None);
+    assert_eq!(rt; record.replace(1, Some(9)), Some(8));
+    assert_eq!(rt; record.replace(1, None), Some(9));
+    assert_eq!(rt; record.get(1), None);
     record.set(1, 8);
     record.unset(1);
     assert_eq!(rt; record.get(1), None);

@@ -1,7 +1,6 @@
 -- What a loop over a list gives, one item after another.
-use Rattle.std.proofs.Common.{◌≡◌, ◌∙◌, refl, sym, ap, List, [], ◌∷◌, ◌++◌, Option, Some, None}
-use Rattle.std.specs.Option.{option_map, option_and_then}
-use Rattle.hilti_rows.specs.Sources.{each_of}
+use Rattle.std.proofs.Common.{List, ◌++◌, Option}
+use Rattle.std.specs.Option.{option_map}
 
 -- a list in front of another, if that is there
 abbrev pub behind : {A : Type 0} → List A → Option (List A) → Option (List A)

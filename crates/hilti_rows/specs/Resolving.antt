@@ -12,8 +12,6 @@ use Rattle.hilti_types.specs.declared.op.Op.{Op}
 use Rattle.hilti_types.specs.declared.op.Op.TheVariants as ops
 use Rattle.hilti_types.specs.declared.value_type.Inner.{Inner}
 use Rattle.hilti_types.specs.declared.value_type.Inner.TheVariants as inners
-use Rattle.hilti_types.specs.declared.value_type.ValueType.{ValueType}
-use Rattle.hilti_types.specs.declared.value_type.ValueType.TheVariants as types
 use Rattle.hilti_parts.specs.declared.parts.Instruction.{Instruction}
 use Rattle.hilti_parts.specs.declared.parts.Operand.{Operand}
 use Rattle.hilti_parts.specs.declared.parts.Operand.TheVariants as operands
@@ -24,7 +22,6 @@ use Rattle.hilti_rows.specs.declared.row.Binary.{Binary}
 use Rattle.hilti_rows.specs.declared.row.Binary.TheVariants as binaries
 use Rattle.hilti_rows.specs.declared.row.Row.{Row}
 use Rattle.hilti_rows.specs.declared.row.Row.TheVariants as rows
-use Rattle.hilti_rows.specs.declared.row.Source.{Source}
 use Rattle.hilti_rows.specs.declared.row.StructRow.TheVariants as structs
 use Rattle.hilti_rows.specs.declared.row.Unary.{Unary}
 use Rattle.hilti_rows.specs.declared.row.Unary.TheVariants as unaries

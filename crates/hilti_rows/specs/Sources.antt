@@ -1,5 +1,5 @@
 -- Where the values of operands are.
-use Rattle.std.specs.Prelude.{ℕ, List, [], ◌∷◌, Option, Some, None}
+use Rattle.std.specs.Prelude.{List, [], ◌∷◌, Option, Some, None}
 use Rattle.std.specs.Option.{option_map, option_and_then}
 use Rattle.hilti_types.specs.declared.value_type.ValueType.{ValueType}
 use Rattle.hilti_parts.specs.declared.parts.Operand.{Operand}
@@ -44,7 +44,7 @@ abbrev pub printed_of : Operand → Option Printed
 printed_of x = option_and_then (printed_with (given_kind x)) (source_of x)
 
 abbrev pub pair : {A B : Type 0} → A → B → A × B
-pair a b = (a , b)
+pair a b = (a, b)
 
 -- what is made of two things, where both are there
 abbrev pub both : {A B C : Type 0} → (A → B → C) → Option A → Option B → Option C

@@ -9,7 +9,7 @@ ghost use Rattle.hilti_rows.specs.Resolving.{jumps as jumps_of, branches as bran
 ghost use Rattle.hilti_rows.specs.Resolving.{returned as returned_of, thrown as thrown_of};
 
 use crate::kinds::copy_type;
-use crate::names::{exception_of, block_of, function_of};
+use crate::names::{block_of, exception_of, function_of};
 use crate::numbers::{int_as, int_as_exact, of_numbers};
 use crate::row::{Binary, Printed, PrintedItems, Row, Unary};
 use crate::sources::{group, source, together, two_sources};

@@ -1,14 +1,15 @@
 //! Instructions as they are run: rows, each of the shape of what it does, with its operands as places of values.
 #![tactic(auto)]
 
+mod instructions;
 mod kinds;
 mod names;
 mod numbers;
-mod instructions;
 mod row;
 mod sources;
 mod structs;
-
+#[cfg(test)]
+mod tests;
 
 pub use instructions::resolve;
 pub use row::{Binary, Printed, PrintedItems, Row, Source, Sources, StructRow, Unary};

@@ -53,7 +53,9 @@ pub fn struct_of(operand: &Operand) -> Option<u32>
     ensures { result ≡ declared_struct operand.now }
 {
     match operand {
-        Operand::New { what: Inner::Struct { n } } => Some(*n),
+        Operand::New {
+            what: Inner::Struct { n },
+        } => Some(*n),
         _ => None,
     }
 }

@@ -48,31 +48,89 @@ pub struct Printed {
 #[derive(Debug, Drop)]
 pub enum StructRow {
     /// Makes a struct of the declared type with this number, with all fields unset.
-    New { target: Variable, declared: u32 },
-    Get { target: Variable, object: Source, field: u32 },
-    Set { object: Source, field: u32, value: Source },
-    Unset { object: Source, field: u32 },
-    IsSet { target: Variable, object: Source, field: u32 },
+    New {
+        target: Variable,
+        declared: u32,
+    },
+    Get {
+        target: Variable,
+        object: Source,
+        field: u32,
+    },
+    Set {
+        object: Source,
+        field: u32,
+        value: Source,
+    },
+    Unset {
+        object: Source,
+        field: u32,
+    },
+    IsSet {
+        target: Variable,
+        object: Source,
+        field: u32,
+    },
 }
 
 /// An instruction as it is run.
 #[derive(Debug, Drop)]
 pub enum Row {
     Nop,
-    Unary { op: Unary, target: Variable, a: Source },
-    Binary { op: Binary, target: Variable, a: Source, b: Source },
+    Unary {
+        op: Unary,
+        target: Variable,
+        a: Source,
+    },
+    Binary {
+        op: Binary,
+        target: Variable,
+        a: Source,
+        b: Source,
+    },
     /// `yes` where `test` is True, else `no`.
-    Select { target: Variable, test: Source, yes: Source, no: Source },
-    IsNull { target: Variable, object: Source },
-    Print { items: PrintedItems },
+    Select {
+        target: Variable,
+        test: Source,
+        yes: Source,
+        no: Source,
+    },
+    IsNull {
+        target: Variable,
+        object: Source,
+    },
+    Print {
+        items: PrintedItems,
+    },
     Yield,
-    Call { function: FnId, arguments: Sources, target: Option<Variable> },
-    Bind { target: Variable, function: FnId, arguments: Sources },
+    Call {
+        function: FnId,
+        arguments: Sources,
+        target: Option<Variable>,
+    },
+    Bind {
+        target: Variable,
+        function: FnId,
+        arguments: Sources,
+    },
     /// Goes on at the beginning of a block of the function.
-    Jump { to: u32 },
-    IfElse { test: Source, yes: u32, no: u32 },
+    Jump {
+        to: u32,
+    },
+    IfElse {
+        test: Source,
+        yes: u32,
+        no: u32,
+    },
     ReturnVoid,
-    ReturnResult { value: Source },
-    Throw { exception: u32, text: Source },
-    Struct { row: StructRow },
+    ReturnResult {
+        value: Source,
+    },
+    Throw {
+        exception: u32,
+        text: Source,
+    },
+    Struct {
+        row: StructRow,
+    },
 }

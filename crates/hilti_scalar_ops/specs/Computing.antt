@@ -1,6 +1,6 @@
 -- What instructions compute of one or two values.
-use Rattle.std.specs.Prelude.{◌≡◌, ℕ, ◌%◌, ◌^◌, ◌<◌, Bool, true, false, not, ◌&&◌, ◌||◌, nat_lt}
-use Rattle.std.specs.Prelude.{nat_le, Result, Ok, Err, IsTrue}
+use Rattle.std.specs.Prelude.{ℕ, ◌%◌, ◌^◌, ◌<◌, Bool, false, not, ◌&&◌, ◌||◌, nat_lt}
+use Rattle.std.specs.Prelude.{nat_le, Result, Ok, Err}
 use Rattle.std.specs.Prelude.{int_lt}
 use Rattle.hilti_base.specs.declared.refusal.Raise.{Raise}
 use Rattle.hilti_int.specs.declared.width.Width.{Width}

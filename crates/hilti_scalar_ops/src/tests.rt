@@ -12,18 +12,46 @@ fn computes(rt: HostRuntime) {
         op: IntOp::Add,
         width,
     };
-    assert!(rt; matches!(compute_binary(add, &a, &b), Made::Gives { value: Value::Int(0) }));
+    assert!(rt;
+        matches!(
+            compute_binary(add, &a, &b),
+            Made::Gives {
+                value: Value::Int(0)
+            }
+        )
+    );
     let exact = Binary::Int {
         op: IntOp::AddExact,
         width,
     };
     let raised = compute_binary(exact, &a, &b);
-    assert!(rt; matches!(raised, Made::Raises { raise: Raise::ValueError }));
+    assert!(rt;
+        matches!(
+            raised,
+            Made::Raises {
+                raise: Raise::ValueError
+            }
+        )
+    );
     let less = Binary::Compare {
         op: IntCmp::Slt,
         width,
     };
-    assert!(rt; matches!(compute_binary(less, &a, &b), Made::Gives { value: Value::Bool(true) }));
+    assert!(rt;
+        matches!(
+            compute_binary(less, &a, &b),
+            Made::Gives {
+                value: Value::Bool(true)
+            }
+        )
+    );
     let same = compute_unary(rt.alloc(), Unary::Assign, &a);
-    assert!(rt; matches!(same, Ok(Made::Gives { value: Value::Int(255) })));
+    assert!(rt;
+        matches!(
+            same,
+            Ok(Made::Gives {
+                value: Value::Int(255)
+            })
+        )
+    );
 }

@@ -1,0 +1,15 @@
+use Rattle.std.proofs.Common.{arith}
+use Rattle.hilti_heap.specs.Held.{all_held}
+use Rattle.hilti_heap.specs.declared.object.Object.TheVariants.{Bound}
+use Rattle.hilti_heap.proofs.Standing.{covers_kept, create_with}
+use Rattle.hilti_heap_ops.proofs.callables.callable_bind.Goals as goal
+
+pub hold_values-requires : goal.hold_values-requires
+hold_values-requires c =
+    covers_kept c.args.heap.now (λ s. all_held s c.args.arguments) _ c.requires (λ s. omega arith)
+
+pub returns : goal.returns
+returns c =
+    create_with (Bound c.args.function c.args.arguments) c.in_ok-callable.callable c.args.heap.now
+    c.hold_values.new.self c.create.new.heap c.in_ok-hold_values.ensures.ok
+    c.in_ok-callable.ensures
