@@ -28,8 +28,9 @@ use Rattle.hilti_effects.specs.Acting.{row_at, instruction_in, next, entry, loca
 use Rattle.hilti_effects.specs.Raising.{to_block}
 use Rattle.hilti_shapes.specs.Needs.{Kinds, Has, Have, no_kinds}
 use Rattle.hilti_shapes.specs.TypedRows.{IsRow, PrintsTexts}
-use Rattle.hilti_shapes.specs.Places.{HasRow, IsRunnable, IsTypedProgram, IsAt, IsFrame}
+use Rattle.hilti_shapes.specs.Places.{HasRow, IsRunnable, IsTypedProgram, IsAt, IsFrame, has_constants}
 use Rattle.hilti_shapes.proofs.Growing.{have_grow, none_grows}
+use Rattle.hilti_shapes.proofs.Firsts.{firsts_have}
 use Rattle.hilti_shapes.proofs.Endings.{ends, ends_by}
 use Rattle.hilti_shapes.proofs.TypedLines.{typed_row}
 
@@ -113,5 +114,5 @@ module _ (parts : Parts) (program : IsTypedProgram parts) where
         function = g; in_parts = e; block = b.0; in_function = b.1;
         within = (typed_blocks_end (context parts f.n g) g.params b.0 typed).some;
         slots_are = subst (λ o. Have parts.types k (args ++ locals_in o) g.slots) (sym e)
-            (entry_have (Has parts.types k) g.params g.slots args h (have_grow parts.types no_kinds k (none_grows k) (map first_of g.slots) g.slots (runnable_at f.n g e).firsts));
+            (entry_have (Has parts.types k) g.params g.slots args h (have_grow parts.types no_kinds k (none_grows k) (map first_of g.slots) g.slots (firsts_have parts.types g.slots (recursion_from_All (λ (t : ValueType). IsTrue (has_constants parts.types t)) g.slots (runnable_at f.n g e).firsts))));
       }

@@ -5,6 +5,7 @@ pub mod Endings
 pub mod Entering
 pub mod Examples
 pub mod Fields
+pub mod Firsts
 pub mod Growing
 pub mod Lines
 pub mod Numbers

@@ -52,7 +52,7 @@ pub by_type : (P : ValueType → Type 0) → ((shape : ValueType-F Inner ValueTy
 by_type P f t = subst P (roll-out-ValueType t) (f (out-ValueType t))
 
 module _ (table : List Declared) where
-  fits_nothing : (b : Bool) → IsTrue b → nothing_if b ≡ nothing
+  pub fits_nothing : (b : Bool) → IsTrue b → nothing_if b ≡ nothing
   fits_nothing true h = refl
   fits_nothing false h = absurd (false≢true h)
 

@@ -96,7 +96,7 @@ module _ (table : List Declared) where
   fits_if k true h = tt
   fits_if k false h = absurd (false≢true h)
 
-  below_true : (n m : ℕ) → n < m → IsTrue (nat_lt n m)
+  pub below_true : (n m : ℕ) → n < m → IsTrue (nat_lt n m)
   below_true n m h = grind (arith, nat_tests, h)
 
   true_below : (n m : ℕ) → IsTrue (nat_lt n m) → n < m
