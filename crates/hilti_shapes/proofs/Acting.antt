@@ -1,5 +1,5 @@
 -- What a function does at a typed row keeps types, and so does going back to a caller.
-use Rattle.std.proofs.Common.{◌≡◌, ℕ, ◌+◌, ◌<◌, Bool, true, false, IsTrue, cond, List, [], ◌∷◌, ◌++◌, length, map, take, refl, sym, ap, ◌∙◌, Option, Some, None, IfSome, IsSome, IsSomeAnd, Result, Ok, Err, slice_get}
+use Rattle.std.proofs.Common.{◌≡◌, ℕ, ◌+◌, ◌<◌, Bool, true, false, cond, List, [], ◌∷◌, ◌++◌, length, take, refl, sym, ap, Option, Some, None, IfSome, IsSomeAnd, Result, Ok, Err, slice_get}
 use Rattle.std.proofs.Math.Path.{subst}
 use Rattle.std.specs.List.{AllByRecursion, AllZip}
 use Rattle.std.specs.Option.{option_and_then}
@@ -14,12 +14,10 @@ use Rattle.hilti_parts.specs.declared.parts.Variable.{Variable}
 use Rattle.hilti_typing.specs.Context.{Context}
 use Rattle.hilti_typing.specs.Exceptions.{raise_number}
 use Rattle.hilti_typing.specs.Programs.{context}
-use Rattle.hilti_calls.specs.Calls.{Action.Go, Action.Call, Action.Leave, Back.On, Back.Out}
 use Rattle.hilti_values.specs.declared.value.Value.{Value}
 use Rattle.hilti_values.specs.declared.value.Value.TheVariants as values
 use Rattle.hilti_heap.specs.Stores.{Answer, Answer.Done, Answer.Raised}
 use Rattle.hilti_heap_ops.specs.Meaning.{struct_new, struct_get, struct_set, struct_unset, struct_is_set, is_null, callable_bind}
-use Rattle.hilti_rows.specs.declared.row.Printed.{Printed}
 use Rattle.hilti_rows.specs.declared.row.Row.{Row}
 use Rattle.hilti_rows.specs.declared.row.Row.TheVariants as rows
 use Rattle.hilti_rows.specs.declared.row.Source.{Source}
@@ -39,7 +37,7 @@ use Rattle.hilti_effects.specs.Acting.{next, at, with_globals, assigns, refuses,
 use Rattle.hilti_effects.specs.declared.ending.Ending.{Ending}
 use Rattle.hilti_effects.specs.declared.ending.Ending.TheVariants as endings
 use Rattle.hilti_shapes.specs.Needs.{Kinds, Has, Have, IsResult}
-use Rattle.hilti_shapes.specs.Objects.{CanRun, Gives, Answers}
+use Rattle.hilti_shapes.specs.Objects.{CanRun, Answers}
 use Rattle.hilti_shapes.specs.TypedRows.{IsSource, IsTarget, Receives, IsCall, IsBind, IsStructRow, IsRow}
 use Rattle.hilti_shapes.specs.Places.{IsTypedProgram, IsAt, IsFrame, result_type, TakesResult, Chain, IsState}
 use Rattle.hilti_shapes.specs.Keeping.{GoesOn, Ends, Keeps, KeepsBack, ActsKeepTypes, ReturnsKeepTypes}
@@ -151,7 +149,7 @@ module _ (parts : Parts) (program : IsTypedProgram parts) (p : Position) (below 
       let h = values_have c k slots st.globals a.slots_are state.globals_are arguments (take g.params g.slots) given in
       answered_to v types.Callable (callable_bind f.n (values_at slots st.globals arguments) st.store) target
       (bind_answers parts k st.store state.store_is f (values_at slots st.globals arguments)
-        (subst (λ o. IsSomeAnd o (CanRun parts.types k (values_at slots st.globals arguments))) (sym e) (record { void = void; arguments = h })))
+      (subst (λ o. IsSomeAnd o (CanRun parts.types k (values_at slots st.globals arguments))) (sym e) (record { void = void; arguments = h })))
       more
 
   struct_kept : (row : StructRow) → IsStructRow c row → More → Keeps parts k p below (on_struct parts p slots st row)
@@ -162,7 +160,7 @@ module _ (parts : Parts) (program : IsTypedProgram parts) (p : Position) (below 
   struct_kept (structs.Set o n x) r more = let f = r.0 in
       answered (struct_set (value_at slots st.globals o) n (value_at slots st.globals x) st.store)
       (set_answers parts k st.store state.store_is f.struct n f.kind (Some (value_at slots st.globals x)) (value_at slots st.globals o) f.there (has_value x f.kind r.1)
-        (has_value o (types.Ref (inners.Struct f.struct)) f.holder)) more
+      (has_value o (types.Ref (inners.Struct f.struct)) f.holder)) more
   struct_kept (structs.Unset o n) f more =
       answered (struct_unset (value_at slots st.globals o) n st.store)
       (set_answers parts k st.store state.store_is f.struct n f.kind None (value_at slots st.globals o) f.there tt (has_value o (types.Ref (inners.Struct f.struct)) f.holder)) more

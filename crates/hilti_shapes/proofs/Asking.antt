@@ -1,10 +1,10 @@
 -- A call in progress finds what the rows of a typed program ask.
-use Rattle.std.proofs.Common.{◌≡◌, ℕ, ◌+◌, ◌<◌, ◌≤◌, Bool, true, false, IsTrue, List, [], ◌∷◌, length, map, take, refl, sym, ap, ◌∙◌, Option, Some, None, IfSome, IsSome, IsSomeAnd, inl, slice_get, arith}
+use Rattle.std.proofs.Common.{◌≡◌, ℕ, IsTrue, List, [], ◌∷◌, length, map, take, refl, sym, ap, ◌∙◌, Option, Some, None, IsSomeAnd, inl, slice_get, arith}
 use Rattle.std.proofs.Math.Path.{subst}
-use Rattle.std.specs.List.{All, AllByRecursion, AllZip}
+use Rattle.std.specs.List.{AllByRecursion}
 use Rattle.std.specs.Option.{option_map}
 use Rattle.std.proofs.lemmas.List.Elements.{All-from_recursion}
-use Rattle.std.proofs.lemmas.Option.{same_Some, slice_get_within, slice_get-map}
+use Rattle.std.proofs.lemmas.Option.{slice_get_within, slice_get-map}
 use Rattle.std.proofs.lemmas.Slice.Zip.{AllZip-long}
 use Rattle.hilti_types.specs.declared.value_type.Inner.TheVariants as inners
 use Rattle.hilti_types.specs.declared.value_type.ValueType.{ValueType}
@@ -16,7 +16,6 @@ use Rattle.hilti_typing.specs.Programs.{context, signature}
 use Rattle.hilti_print.specs.Trees.{HasText}
 use Rattle.hilti_values.specs.declared.value.Value.{Value}
 use Rattle.hilti_values.specs.declared.value.Value.TheVariants as values
-use Rattle.hilti_heap.specs.Held.{all_held}
 use Rattle.hilti_heap.specs.Kept.{Kept}
 use Rattle.hilti_heap.specs.Stands.{StandsFor, Fits, IsKept}
 use Rattle.hilti_heap.specs.Stores.{Store}
@@ -33,8 +32,8 @@ use Rattle.hilti_scalar_ops.specs.Computing.{IsBool, TakesOne}
 use Rattle.hilti_stack.specs.declared.head.Position.{Position}
 use Rattle.hilti_effects.specs.Operands.{value_or_null, value_at}
 use Rattle.hilti_effects.specs.Printing.{tree_of}
-use Rattle.hilti_effects.specs.Asks.{Gets, Any, IsText, AreThere, AsksPrinted, Asks, AsksStruct, Ready}
-use Rattle.hilti_shapes.specs.Needs.{Kinds, Meets, Has, needs, nothing, no_kinds}
+use Rattle.hilti_effects.specs.Asks.{Gets, Any, IsText, AreThere, AsksPrinted, Asks, AsksStruct}
+use Rattle.hilti_shapes.specs.Needs.{Kinds, Meets, Has, no_kinds}
 use Rattle.hilti_shapes.specs.Objects.{field_types}
 use Rattle.hilti_shapes.specs.TypedRows.{IsSource, AreSources, IsField, IsStructRow, IsRow, PrintsTexts, has_text}
 use Rattle.hilti_shapes.specs.Places.{IsTypedProgram, IsAt, AreShared}

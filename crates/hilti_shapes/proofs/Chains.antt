@@ -1,5 +1,5 @@
 -- The frames that wait below the top.
-use Rattle.std.proofs.Common.{◌≡◌, List, [], ◌∷◌, ◌++◌, refl, sym, ap, ◌∙◌, Option, Some, None, IfSome, slice_get}
+use Rattle.std.proofs.Common.{◌≡◌, List, [], ◌∷◌, ◌++◌, sym, IfSome, slice_get}
 use Rattle.std.proofs.Math.Path.{subst}
 use Rattle.std.specs.List.{AllByRecursion}
 use Rattle.std.specs.Option.{option_and_then}
@@ -13,7 +13,7 @@ use Rattle.hilti_stack.specs.declared.head.Position.{Position}
 use Rattle.hilti_stack.specs.Frames.{Frame, frame}
 use Rattle.hilti_shapes.specs.Needs.{Kinds, Grows}
 use Rattle.hilti_shapes.specs.TypedRows.{Receives}
-use Rattle.hilti_shapes.specs.Places.{IsAt, IsHeadAt, IsFrame, result_type, TakesResult, TakesFrom, first_head, Hands, Chain}
+use Rattle.hilti_shapes.specs.Places.{IsAt, IsHeadAt, IsFrame, result_type, TakesFrom, Chain}
 use Rattle.hilti_shapes.proofs.Growing.{all_meet, have_grow}
 
 pub all_push : {A : Type 0} (P : A → Type 0) (xs : List A) (x : A) → AllByRecursion P xs → P x → AllByRecursion P (xs ++ x ∷ [])
@@ -64,7 +64,11 @@ module _ (parts : Parts) where
   module _ (k l : Kinds) (g : Grows k l) where
     pub at_grow : (p : Position) (slots : List Value) → IsAt parts p slots k → IsAt parts p slots l
     at_grow p slots a = record {
-      function = a.function; in_parts = a.in_parts; block = a.block; in_function = a.in_function; within = a.within;
+      function = a.function;
+      in_parts = a.in_parts;
+      block = a.block;
+      in_function = a.in_function;
+      within = a.within;
       slots_are = have_grow parts.types k l g slots a.function.slots a.slots_are;
     }
 

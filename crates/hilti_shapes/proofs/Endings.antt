@@ -1,9 +1,7 @@
 -- Which rows end a block: those of ending instructions.
-use Rattle.std.proofs.Common.{◌≡◌, ℕ, Bool, true, false, List, [], ◌∷◌, refl, sym, ap, ◌∙◌, Option, Some, None}
+use Rattle.std.proofs.Common.{◌≡◌, Bool, true, false, List, [], ◌∷◌, ap, Option, Some, None}
 use Rattle.std.proofs.lemmas.Option.{same_Some}
 use Rattle.std.specs.Option.{option_and_then}
-use Rattle.hilti_int.specs.declared.comparisons.IntCmp.{IntCmp}
-use Rattle.hilti_int.specs.declared.operations.IntOp.{IntOp}
 use Rattle.hilti_int.specs.declared.width.Width.{Width}
 use Rattle.hilti_int.specs.declared.comparisons.IntCmp.TheVariants as comparisons
 use Rattle.hilti_int.specs.declared.operations.IntOp.TheVariants as int_ops
@@ -24,7 +22,7 @@ use Rattle.hilti_rows.specs.declared.row.StructRow.TheVariants as structs
 use Rattle.hilti_rows.specs.declared.row.Unary.{Unary}
 use Rattle.hilti_rows.specs.declared.row.Unary.TheVariants as unaries
 use Rattle.hilti_rows.specs.Sources.{source_of, grouped_sources, printed_of, each_of}
-use Rattle.hilti_rows.specs.Resolving.{width, unary, binary, line_width, target_width, selected, tested, function, called, bound, jumps, branches, returned, thrown, declared_struct, new_struct, struct_get, struct_is_set, struct_set, struct_unset, row_by}
+use Rattle.hilti_rows.specs.Resolving.{unary, binary, line_width, target_width, selected, tested, function, called, bound, jumps, branches, returned, thrown, declared_struct, new_struct, struct_get, struct_is_set, struct_set, struct_unset, row_by}
 use Rattle.hilti_shapes.proofs.Sources.{mapped, behind, both_are}
 
 abbrev pub ends : Row → Bool

@@ -1,22 +1,19 @@
 -- What a typed program has at a place, and a function that is entered.
-use Rattle.std.proofs.Common.{◌≡◌, ℕ, zero, suc, ◌+◌, ◌<◌, ◌≤◌, Bool, true, false, IsTrue, List, [], ◌∷◌, ◌++◌, length, map, take, drop, refl, sym, ap, ◌∙◌, Option, Some, None, IfSome, IsSome, IsSomeAnd, is_some, slice_get, arith}
+use Rattle.std.proofs.Common.{◌≡◌, ℕ, zero, suc, ◌+◌, ◌<◌, false, IsTrue, List, [], ◌∷◌, ◌++◌, length, map, take, drop, refl, sym, ap, ◌∙◌, Option, Some, None, IfSome, IsSome, slice_get, arith}
 use Rattle.std.proofs.Math.Path.{subst}
 use Rattle.std.specs.List.{All, AllByRecursion, AllZip}
-use Rattle.std.specs.Option.{option_map, option_and_then}
+use Rattle.std.specs.Option.{option_and_then}
 use Rattle.std.proofs.lemmas.Bool.{false≢true}
 use Rattle.std.proofs.lemmas.List.Elements.{recursion_from_All}
-use Rattle.std.proofs.lemmas.Option.{same_Some, slice_get_within}
+use Rattle.std.proofs.lemmas.Option.{same_Some}
 use Rattle.hilti_base.specs.declared.names.FnId.{FnId}
 use Rattle.hilti_types.specs.declared.value_type.ValueType.{ValueType}
-use Rattle.hilti_table.specs.Rows.{ends_block}
-use Rattle.hilti_table.specs.Table.{line_of}
 use Rattle.hilti_parts.specs.declared.parts.Block.{Block}
 use Rattle.hilti_parts.specs.declared.parts.Function.{Function}
 use Rattle.hilti_parts.specs.declared.parts.Instruction.{Instruction}
 use Rattle.hilti_parts.specs.declared.parts.Parts.{Parts}
 use Rattle.hilti_parts.specs.declared.parts.Variable.{Variable}
 use Rattle.hilti_raise.specs.Handlers.{block_at}
-use Rattle.hilti_typing.specs.Context.{Context}
 use Rattle.hilti_typing.specs.Programs.{context, is_ending, IsTypedBlock, IsTypedInstruction}
 use Rattle.hilti_typing.proofs.Programs.{some_at, typed_blocks_end}
 use Rattle.hilti_values.specs.First.{first_of}
@@ -111,7 +108,10 @@ module _ (parts : Parts) (program : IsTypedProgram parts) where
       let b = some_at g.blocks 0 function.begins in
       let typed = all_at (IsTypedBlock (context parts f.n g) g.params) g.blocks 0 b.0 function.blocks b.1 in
       record {
-        function = g; in_parts = e; block = b.0; in_function = b.1;
+        function = g;
+        in_parts = e;
+        block = b.0;
+        in_function = b.1;
         within = (typed_blocks_end (context parts f.n g) g.params b.0 typed).some;
         slots_are = subst (λ o. Have parts.types k (args ++ locals_in o) g.slots) (sym e)
             (entry_have (Has parts.types k) g.params g.slots args h (have_grow parts.types no_kinds k (none_grows k) (map first_of g.slots) g.slots (firsts_have parts.types g.slots (recursion_from_All (λ (t : ValueType). IsTrue (has_constants parts.types t)) g.slots (runnable_at f.n g e).firsts))));

@@ -1,10 +1,9 @@
 -- Some calls in progress that are typed, and some that aren't.
-use Rattle.std.proofs.Common.{◌≡◌, ℕ, ◌<◌, ◌^◌, Bool, true, false, List, [], ◌∷◌, refl, sym, ap, ◌∙◌, length, Option, Some, None, IsSomeAnd, slice_get, arith}
+use Rattle.std.proofs.Common.{◌≡◌, ℕ, ◌<◌, true, List, [], ◌∷◌, refl, sym, ap, ◌∙◌, length, Some, None, IsSomeAnd, slice_get, arith}
 use Rattle.std.proofs.Math.Path.{subst}
 use Rattle.std.proofs.lemmas.Option.{same_Some}
 use Rattle.hilti_types.specs.declared.value_type.Inner.TheOpen.{ValueType-F}
 use Rattle.hilti_types.specs.declared.value_type.Inner.TheVariants as inners
-use Rattle.hilti_types.specs.declared.value_type.ValueType.{ValueType}
 use Rattle.hilti_types.specs.declared.value_type.ValueType.TheVariants as types
 use Rattle.hilti_parts.specs.declared.parts.Block.{Block}
 use Rattle.hilti_parts.specs.declared.parts.Function.{Function}
@@ -12,12 +11,11 @@ use Rattle.hilti_typing.specs.ProgramExamples.{whole, packet}
 use Rattle.hilti_values.specs.declared.value.Value.{Value}
 use Rattle.hilti_values.specs.declared.value.Value.TheVariants as values
 use Rattle.hilti_values.specs.declared.value.Value.TheOpen.{Value-F}
-use Rattle.hilti_stack.specs.declared.head.Position.{Position}
-use Rattle.hilti_shapes.specs.Needs.{Needs, Kinds, Meets, Has, Have, needs, nothing, object_of, no_kinds, ObjectType, ObjectType.Referred}
-use Rattle.hilti_shapes.specs.Places.{IsAt, IsConfig}
-use Rattle.hilti_shapes.specs.Examples.{empty_store, beginning, packet_slots, Begins, TypedBeginning, UntypedBeginnings, one_struct, TypedValues}
+use Rattle.hilti_shapes.specs.Needs.{Meets, Has, Have, no_kinds, ObjectType.Referred}
+use Rattle.hilti_shapes.specs.Places.{IsAt}
+use Rattle.hilti_shapes.specs.Examples.{beginning, packet_slots, TypedBeginning, UntypedBeginnings, one_struct, TypedValues}
 use Rattle.hilti_shapes.proofs.Stores.{empty_typed}
-use Rattle.hilti_shapes.proofs.Values.{shape_needs, has_bool, has_text, has_int, has_ref, has_null, is_truth, is_number, IsTruth, TruthIs, IsNumber, NumberIs, refers, Refers, RefersNull, RefersTo}
+use Rattle.hilti_shapes.proofs.Values.{shape_needs, has_bool, has_text, has_int, has_ref, has_null, is_number, IsNumber, NumberIs}
 
 has_time : (n : ℕ) → Has [] no_kinds (values.Time n) types.Time
 has_time n = subst (λ o. IsSomeAnd o (Meets no_kinds)) (sym (shape_needs [] (Value-F.Time n) (values.Time n) ValueType-F.Time types.Time (values.rolls-Time n) types.rolls-Time)) tt

@@ -1,5 +1,5 @@
 -- Structs and callables of types: what rows on them ask, and that they keep types.
-use Rattle.std.proofs.Common.{◌≡◌, ℕ, zero, suc, ◌+◌, ◌<◌, ◌≤◌, List, [], ◌∷◌, length, map, replicate, refl, sym, ap, ◌∙◌, Option, Some, None, IfSome, IsSome, IsSomeAnd, arith, inl, slice_get, rules}
+use Rattle.std.proofs.Common.{◌≡◌, ℕ, zero, suc, ◌+◌, ◌≤◌, List, [], ◌∷◌, length, map, replicate, refl, sym, ap, ◌∙◌, Option, Some, None, IsSomeAnd, arith, slice_get, rules}
 use Rattle.std.proofs.Math.Path.{subst}
 use Rattle.std.specs.Prelude.{slice_set}
 use Rattle.std.proofs.lemmas.List.Sums.{sum-map, sum_by-cons}
@@ -11,32 +11,30 @@ use Rattle.hilti_base.specs.declared.refusal.Raise.{Raise}
 use Rattle.hilti_types.specs.declared.declared.Declared.{Declared}
 use Rattle.hilti_types.specs.declared.declared.Declared.TheVariants as declared
 use Rattle.hilti_types.specs.declared.declared.Member.{Member}
-use Rattle.hilti_types.specs.declared.value_type.Inner.{Inner, out-Inner, out-roll-Inner}
+use Rattle.hilti_types.specs.declared.value_type.Inner.{out-Inner, out-roll-Inner}
 use Rattle.hilti_types.specs.declared.value_type.Inner.TheOpen.{Inner-F}
 use Rattle.hilti_types.specs.declared.value_type.Inner.TheVariants as inners
 use Rattle.hilti_types.specs.declared.value_type.ValueType.{ValueType}
 use Rattle.hilti_types.specs.declared.value_type.ValueType.TheVariants as types
-use Rattle.hilti_parts.specs.declared.parts.Function.{Function}
 use Rattle.hilti_parts.specs.declared.parts.Parts.{Parts}
 use Rattle.hilti_typing.specs.Types.{struct_fields}
 use Rattle.hilti_values.specs.declared.value.Value.{Value, roll-Value}
 use Rattle.hilti_values.specs.declared.value.Value.TheVariants as values
 use Rattle.hilti_values.specs.declared.value.Value.TheOpen.{Value-F}
-use Rattle.hilti_values.specs.declared.value.Value.TheFolds.{map-Value, the_lemmas}
+use Rattle.hilti_values.specs.declared.value.Value.TheFolds.{the_lemmas}
 use Rattle.hilti_heap.specs.declared.object.Object.{Object}
 use Rattle.hilti_heap.specs.declared.object.Object.TheVariants.{Struct, Bound}
-use Rattle.hilti_heap.specs.Cells.{object_at}
-use Rattle.hilti_heap.specs.Held.{is, held, held_step, all_held}
+use Rattle.hilti_heap.specs.Held.{held, held_step, all_held}
 use Rattle.hilti_heap.specs.Kept.{Kept}
 use Rattle.hilti_heap.specs.Stands.{StandsFor, IsKept}
-use Rattle.hilti_heap.specs.Stores.{Store, Answer, Answer.Done, Answer.Raised, create, change, told, added, changed}
+use Rattle.hilti_heap.specs.Stores.{Store, Answer, Answer.Done, Answer.Raised, create, change, told, changed}
 use Rattle.hilti_heap.proofs.Heaping.{with_here}
 use Rattle.hilti_heap.proofs.Places.{is_self}
-use Rattle.hilti_heap_ops.specs.Meaning.{struct_new, field_of, with_field, struct_get, struct_set, struct_unset, struct_is_set, field_is_set, callable_bind}
+use Rattle.hilti_heap_ops.specs.Meaning.{struct_new, field_of, with_field, struct_get, struct_is_set, field_is_set, callable_bind}
 use Rattle.hilti_heap_ops.specs.Shapes.{HasField, HasFieldAt, HasFieldIn}
 use Rattle.hilti_effects.specs.Acting.{members, fields_of}
-use Rattle.hilti_shapes.specs.Needs.{ObjectType, ObjectType.Referred, ObjectType.Callable, Kinds, Has, Have, MayHave, IsResult, Grows}
-use Rattle.hilti_shapes.specs.Objects.{field_types, IsStruct, CanRun, IsObject, Names, IsStore, Gives, Answers}
+use Rattle.hilti_shapes.specs.Needs.{ObjectType, ObjectType.Referred, ObjectType.Callable, Kinds, Has, MayHave, IsResult}
+use Rattle.hilti_shapes.specs.Objects.{field_types, IsStruct, CanRun, IsObject, IsStore, Gives, Answers}
 use Rattle.hilti_shapes.proofs.Growing.{zip_at, zip_put, same_kinds}
 use Rattle.hilti_shapes.proofs.Stores.{with_type, grows_new, new_typed, changed_typed}
 use Rattle.hilti_shapes.proofs.Values.{Refers, RefersNull, RefersTo, refers, has_ref, has_callable, has_bool}
@@ -180,7 +178,7 @@ module _ (parts : Parts) (k : Kinds) (st : Store) (is_store : IsStore parts k st
   pub new_answers : (n : ℕ) → Answers parts k (Some (types.Ref (inners.Struct n))) (struct_new (fields_of parts n) st)
   new_answers n =
       let h : AllZip (MayHave parts.types k) (replicate (fields_of parts n) None) (field_types parts.types n) =
-          subst (λ (ms : List Member). AllZip (MayHave parts.types k) (replicate (length ms) None) (field_types parts.types n)) (sym (members_are (slice_get parts.types n))) (none_have (struct_fields (slice_get parts.types n))) in
+      subst (λ (ms : List Member). AllZip (MayHave parts.types k) (replicate (length ms) None) (field_types parts.types n)) (sym (members_are (slice_get parts.types n))) (none_have (struct_fields (slice_get parts.types n))) in
       created (Struct (replicate (fields_of parts n) None)) (struct_type n) (types.Ref (inners.Struct n)) (has_struct parts k n (replicate (fields_of parts n) None) h)
       (λ l s m. has_ref parts.types l s (inners.Struct n) m)
 

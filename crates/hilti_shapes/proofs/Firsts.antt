@@ -1,13 +1,13 @@
 -- What variables hold at first is of their types, where the enums among these have a constant.
-use Rattle.std.proofs.Common.{◌≡◌, ℕ, Bool, true, false, IsTrue, ◌&&◌, List, [], ◌∷◌, map, refl, sym, ap, ◌∙◌, ◌^◌, Option, Some, None, IsSomeAnd}
+use Rattle.std.proofs.Common.{◌≡◌, ℕ, Bool, true, false, IsTrue, ◌&&◌, List, [], ◌∷◌, map, refl, sym, ap, ◌∙◌, ◌^◌, IsSomeAnd}
 use Rattle.std.proofs.Math.Path.{subst}
 use Rattle.std.specs.Prelude.{slice_get, nat_lt}
 use Rattle.std.specs.List.{AllByRecursion, AllZip, list_all}
 use Rattle.std.proofs.lemmas.Bool.{false≢true}
 use Rattle.std.proofs.lemmas.Nat.{pow_pos}
 use Rattle.hilti_types.specs.declared.declared.Declared.{Declared}
-use Rattle.hilti_types.specs.declared.value_type.Inner.{Inner, roll-Inner}
-use Rattle.hilti_types.specs.declared.value_type.Inner.TheOpen.{Inner-F, ValueType-F}
+use Rattle.hilti_types.specs.declared.value_type.Inner.{Inner}
+use Rattle.hilti_types.specs.declared.value_type.Inner.TheOpen.{ValueType-F}
 use Rattle.hilti_types.specs.declared.value_type.Inner.TheFolds.{ind-ValueType, map-ValueType, fold-roll-ValueType}
 use Rattle.hilti_types.specs.declared.value_type.ValueType.{ValueType, roll-ValueType}
 use Rattle.hilti_typing.specs.Fits.{is_constant}
@@ -17,7 +17,7 @@ use Rattle.hilti_values.specs.declared.value.Value.TheOpen.{Value-F}
 use Rattle.hilti_values.specs.declared.value.Value.TheVariants as values
 use Rattle.hilti_values.specs.declared.value.Value.TheFolds.{map-Value}
 use Rattle.hilti_addr.specs.Masks.{mapped}
-use Rattle.hilti_shapes.specs.Needs.{Meets, Has, Needs, needs, needs_shape, all_need, both_need, nothing, nothing_if, no_kinds}
+use Rattle.hilti_shapes.specs.Needs.{Meets, Has, Needs, needs, needs_shape, all_need, both_need, nothing, no_kinds}
 use Rattle.hilti_shapes.specs.Places.{has_constants, constants_step, any_object}
 use Rattle.hilti_shapes.proofs.Values.{shape_needs, below_true}
 use Rattle.hilti_shapes.proofs.Sources.{fits_nothing}

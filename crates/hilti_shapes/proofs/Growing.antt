@@ -1,5 +1,5 @@
 -- Values keep their types as those of new objects come.
-use Rattle.std.proofs.Common.{◌≡◌, ℕ, zero, suc, List, [], ◌∷◌, refl, sym, Option, Some, None, IfSome, IsSomeAnd, slice_get}
+use Rattle.std.proofs.Common.{◌≡◌, ℕ, zero, suc, List, [], ◌∷◌, refl, sym, Option, Some, None, IsSomeAnd, slice_get}
 use Rattle.std.proofs.Math.Path.{subst}
 use Rattle.std.proofs.lemmas.Option.{same_Some}
 use Rattle.std.specs.Prelude.{slice_set}
@@ -7,7 +7,7 @@ use Rattle.std.specs.List.{AllByRecursion, AllZip}
 use Rattle.hilti_types.specs.declared.declared.Declared.{Declared}
 use Rattle.hilti_types.specs.declared.value_type.ValueType.{ValueType}
 use Rattle.hilti_values.specs.declared.value.Value.{Value}
-use Rattle.hilti_shapes.specs.Needs.{ObjectType, Need, Kinds, Meets, Has, Have, MayHave, IsResult, Grows, needs, no_kinds}
+use Rattle.hilti_shapes.specs.Needs.{Need, Kinds, Meets, Has, Have, MayHave, IsResult, Grows, needs, no_kinds}
 
 pub all_meet : {A : Type 0} (P Q : A → Type 0) → ((x : A) → P x → Q x) → (xs : List A) → AllByRecursion P xs → AllByRecursion Q xs
 all_meet P Q f [] h = tt

@@ -1,12 +1,10 @@
 -- The rows of typed lines are typed.
-use Rattle.std.proofs.Common.{◌≡◌, ℕ, ◌<◌, Bool, true, false, IsTrue, List, [], ◌∷◌, length, refl, sym, ap, map, ◌∙◌, Option, Some, None, IfSome, IsSome, IsSomeAnd, slice_get, arith}
+use Rattle.std.proofs.Common.{◌≡◌, ℕ, ◌<◌, Bool, true, false, List, [], ◌∷◌, refl, sym, ap, ◌∙◌, Option, Some, None, IsSomeAnd, slice_get, arith}
 use Rattle.std.proofs.Math.Path.{subst}
 use Rattle.std.specs.Prelude.{◌==◌, if◌then◌else◌}
-use Rattle.std.specs.List.{All, AllByRecursion, AllZip}
+use Rattle.std.specs.List.{AllByRecursion}
 use Rattle.std.specs.Option.{option_map, option_and_then}
-use Rattle.std.proofs.lemmas.Bool.{false≢true}
 use Rattle.std.proofs.lemmas.Bool.Decides.{nat_tests}
-use Rattle.std.proofs.lemmas.List.Elements.{recursion_from_All}
 use Rattle.std.proofs.lemmas.Option.{same_Some, slice_get-map}
 use Rattle.hilti_base.specs.declared.names.FnId.{FnId}
 use Rattle.hilti_int.specs.declared.comparisons.IntCmp.{IntCmp}
@@ -15,30 +13,22 @@ use Rattle.hilti_int.specs.declared.width.Width.{Width}
 use Rattle.hilti_int.specs.declared.width.Width.TheVariants.{W8, W16, W32, W64}
 use Rattle.hilti_int.specs.Integers.{bits_of}
 use Rattle.hilti_types.specs.declared.declared.Member.{Member}
-use Rattle.hilti_types.specs.declared.op.Op.{Op}
-use Rattle.hilti_types.specs.declared.op.Op.TheVariants as ops
 use Rattle.hilti_types.specs.declared.value_type.Inner.{Inner, out-Inner, roll-Inner, roll-out-Inner, out-roll-Inner}
-use Rattle.hilti_types.specs.declared.value_type.Inner.TheOpen.{Inner-F, ValueType-F}
+use Rattle.hilti_types.specs.declared.value_type.Inner.TheOpen.{Inner-F}
 use Rattle.hilti_types.specs.declared.value_type.Inner.TheVariants as inners
-use Rattle.hilti_types.specs.declared.value_type.ValueType.{ValueType, out-ValueType}
+use Rattle.hilti_types.specs.declared.value_type.ValueType.{ValueType}
 use Rattle.hilti_types.specs.declared.value_type.ValueType.TheVariants as types
-use Rattle.hilti_table.specs.declared.row.Callee.TheVariants as callees
-use Rattle.hilti_table.specs.declared.row.Plain.TheVariants as plain
 use Rattle.hilti_table.specs.declared.row.Test.TheVariants as tests
-use Rattle.hilti_table.specs.Table.{line_of}
-use Rattle.hilti_parts.specs.declared.parts.Instruction.{Instruction}
 use Rattle.hilti_parts.specs.declared.parts.Operand.{Operand, out-Operand, roll-Operand, roll-out-Operand}
 use Rattle.hilti_parts.specs.declared.parts.Operand.TheOpen.{Operand-F}
 use Rattle.hilti_parts.specs.declared.parts.Operand.TheVariants as operands
 use Rattle.hilti_parts.specs.declared.parts.Variable.{Variable}
 use Rattle.hilti_parts.specs.Named.{given_kind, named_block, named_function, grouped}
-use Rattle.hilti_typing.specs.Context.{Signature, Context, Setting, Known, variable_type}
-use Rattle.hilti_typing.specs.Types.{is_int, fields_of, fields_of_shape, struct_fields}
-use Rattle.hilti_typing.specs.Fits.{Has as Fit, HaveAll, AsksOwn, FitsRow, IsTypedLine, MayTake, callee, exception_number, field_number, field_type, int_width, made, setting, width_of}
-use Rattle.hilti_typing.specs.Facts.{TwoNumbers, SomeValues, OneBlock, ValueAndBlocks, ResultValue, ExceptionAndValue, MadeObject, CalledWith, FieldOfStruct}
-use Rattle.hilti_typing.specs.Programs.{IsTarget as HasTarget, IsTypedInstruction}
-use Rattle.hilti_typing.proofs.Meeting.{plain_rows, number_rows, own_rows, flow_rows}
-use Rattle.hilti_typing.proofs.Calls.{call_rows}
+use Rattle.hilti_typing.specs.Context.{Signature, Context, Setting}
+use Rattle.hilti_typing.specs.Types.{fields_of, fields_of_shape, struct_fields}
+use Rattle.hilti_typing.specs.Fits.{Has as Fit, HaveAll, AsksOwn, MayTake, callee, exception_number, field_number, field_type, int_width, made}
+use Rattle.hilti_typing.specs.Facts.{FieldOfStruct}
+use Rattle.hilti_typing.specs.Programs.{IsTarget as HasTarget}
 use Rattle.hilti_rows.specs.declared.row.Binary.{Binary}
 use Rattle.hilti_rows.specs.declared.row.Binary.TheVariants as binaries
 use Rattle.hilti_rows.specs.declared.row.Printed.{Printed}
@@ -47,9 +37,8 @@ use Rattle.hilti_rows.specs.declared.row.Row.TheVariants as rows
 use Rattle.hilti_rows.specs.declared.row.Source.{Source}
 use Rattle.hilti_rows.specs.declared.row.StructRow.TheVariants as structs
 use Rattle.hilti_rows.specs.declared.row.Unary.{Unary}
-use Rattle.hilti_rows.specs.declared.row.Unary.TheVariants as unaries
 use Rattle.hilti_rows.specs.Sources.{source_of, sources_of, grouped_sources, printed_of, printed_with, each_of}
-use Rattle.hilti_rows.specs.Resolving.{width, unary, binary, line_width, sized, compared, target_width, converted, selected, tested, function, called, bound, jumps, branches, returned, thrown, printed_row, struct_number, declared_struct, new_struct, struct_get, struct_is_set, struct_set, struct_unset, int_op, comparison, of_numbers, row_by, row_of}
+use Rattle.hilti_rows.specs.Resolving.{width, unary, binary, selected, tested, function, called, bound, jumps, branches, returned, thrown, struct_number, declared_struct, new_struct}
 use Rattle.hilti_shapes.specs.Objects.{field_types}
 use Rattle.hilti_shapes.specs.TypedRows.{IsSource, AreSources, IsTarget, Turns, Combines, Receives, IsCall, IsBind, IsField, IsRow}
 use Rattle.hilti_shapes.proofs.Sources.{mapped, behind, both_are, source_is, sources_are}
@@ -188,14 +177,14 @@ module _ (c : Context) where
     called_row x group args s row find g h may e =
         let m = both_are (λ f arguments. rows.Call f arguments target) (function x) (grouped_sources group) row e in
         subst (IsRow c) m.4 (subst (λ o. IsSomeAnd o (IsCall c m.1 target)) (sym (callee_is x m.0 s m.2 find))
-            (record { given = given group args m.1 s.parameters g h m.3; receives = receives target s.result refl may }))
+        (record { given = given group args m.1 s.parameters g h m.3; receives = receives target s.result refl may }))
 
     pub bound_row : (x group : Operand) (args : List Operand) (s : Signature) (row : Row) (o : Option Variable) → target ≡ o → callee c x ≡ Some s → grouped group ≡ Some args → HaveAll c s.parameters args → s.result ≡ None
         → kind ≡ Some types.Callable → bound o (x ∷ group ∷ []) ≡ Some row → IsRow c row
     bound_row x group args s row (Some v) f find g h void k e =
         let m = both_are (rows.Bind v) (function x) (grouped_sources group) row e in
         subst (IsRow c) m.4 (subst (λ o. IsSomeAnd o (IsBind c v m.1)) (sym (callee_is x m.0 s m.2 find))
-            (record { void = void; given = given group args m.1 s.parameters g h m.3; goes = at_target target kind is v types.Callable f k }))
+        (record { void = void; given = given group args m.1 s.parameters g h m.3; goes = at_target target kind is v types.Callable f k }))
     bound_row x group args s row None f find g h void k e = absurd cc
 
     pub new_row : (word : Operand) (o : Inner) (row : Row) (t : Option Variable) → target ≡ t → made word ≡ Some o → kind ≡ Some (types.Ref o) → new_struct t (word ∷ []) ≡ Some row → IsRow c row
@@ -212,9 +201,9 @@ module _ (c : Context) where
   pub field_is : (s : Setting) (more items : List Operand) (f : FieldOfStruct more s items) → s.context ≡ c → (o : Source) (at : ℕ) → source_of f.holder ≡ Some o → field_number f.name ≡ Some at → (i : IsField c o at) × (i.kind ≡ f.kind)
   field_is s more items f same o at e n =
       let there : slice_get (field_types c.declared f.struct_number) f.at ≡ Some f.kind =
-          slice_get-map (λ (m : Member). m.kind) (struct_fields (slice_get c.declared f.struct_number)) f.at
-          ∙ ap (λ (ms : List Member). option_map (λ (m : Member). m.kind) (slice_get ms f.at)) (sym (same_fields f.struct_number))
-          ∙ subst (λ (d : Context). field_type d (inners.Struct f.struct_number) f.at ≡ Some f.kind) same f.field_is in
+      slice_get-map (λ (m : Member). m.kind) (struct_fields (slice_get c.declared f.struct_number)) f.at
+      ∙ ap (λ (ms : List Member). option_map (λ (m : Member). m.kind) (slice_get ms f.at)) (sym (same_fields f.struct_number))
+      ∙ subst (λ (d : Context). field_type d (inners.Struct f.struct_number) f.at ≡ Some f.kind) same f.field_is in
       let i : f.at ≡ at = same_Some f.at at (sym f.written ∙ n) in (
         record {
           struct = f.struct_number;

@@ -1,6 +1,6 @@
 -- What is computed of whole numbers of a width is one.
-use Rattle.std.proofs.Common.{◌≡◌, ℕ, zero, suc, ◌+◌, ◌*◌, ◌-◌, ◌/◌, ◌%◌, ◌^◌, ◌<◌, ◌≤◌, Bool, true, false, ◌&&◌, refl, sym, ap, ◌∙◌, Result, Ok, Err, IfOk, arith}
-use Rattle.std.specs.Prelude.{nat_le, nat_lt, ◌==◌, pos, ◌-ℤ◌, int_div, int_rem, if◌then◌else◌}
+use Rattle.std.proofs.Common.{◌≡◌, ℕ, zero, suc, ◌+◌, ◌*◌, ◌/◌, ◌%◌, ◌^◌, ◌<◌, ◌≤◌, Bool, true, false, ◌&&◌, refl, Ok, Err, IfOk, arith}
+use Rattle.std.specs.Prelude.{nat_le, ◌==◌, pos, ◌-ℤ◌, int_div, int_rem, if◌then◌else◌}
 use Rattle.std.specs.Int.{int_shr}
 use Rattle.std.proofs.lemmas.Bool.Decides.{nat_tests}
 use Rattle.std.proofs.lemmas.Nat.{or_lt, xor_lt, and_le_l, div-add-mod', mod_below, pow_pos}
@@ -8,7 +8,7 @@ use Rattle.hilti_base.specs.declared.refusal.Raise.{Raise}
 use Rattle.hilti_base.specs.declared.refusal.Raise.TheVariants as raises
 use Rattle.hilti_int.specs.declared.operations.IntOp.{IntOp}
 use Rattle.hilti_int.specs.declared.operations.IntOp.TheVariants as ops
-use Rattle.hilti_int.specs.Integers.{value_of, wrapped, divides, overflows, outcome_of, exactly, signed}
+use Rattle.hilti_int.specs.Integers.{value_of, divides, overflows, outcome_of, exactly, signed}
 use Rattle.hilti_int.proofs.Readings.{wrapped_below}
 
 quotient_le : (q m n : ℕ) → 0 < m → q * m ≤ n → q ≤ n

@@ -1,8 +1,6 @@
 -- Values at sources and in targets, where slots and globals are of their types.
-use Rattle.std.proofs.Common.{◌≡◌, ℕ, ◌<◌, List, [], ◌∷◌, length, map, refl, sym, ap, ◌∙◌, Option, Some, None, IfSome, IsSome, IsSomeAnd, is_some, slice_get}
+use Rattle.std.proofs.Common.{◌≡◌, List, [], ◌∷◌, refl, sym, ap, Some, IsSomeAnd, is_some}
 use Rattle.std.proofs.Math.Path.{subst}
-use Rattle.std.specs.Prelude.{slice_set}
-use Rattle.std.specs.List.{AllZip}
 use Rattle.std.proofs.lemmas.Option.{slice_get_within}
 use Rattle.hilti_types.specs.declared.value_type.ValueType.{ValueType}
 use Rattle.hilti_parts.specs.declared.parts.Variable.{Variable}
@@ -11,10 +9,10 @@ use Rattle.hilti_typing.specs.Context.{Context}
 use Rattle.hilti_values.specs.declared.value.Value.{Value}
 use Rattle.hilti_rows.specs.declared.row.Source.{Source}
 use Rattle.hilti_rows.specs.declared.row.Source.TheVariants as sources
-use Rattle.hilti_effects.specs.Operands.{found, value_or_null, value_at, values_at, slots_with, globals_with, slots_taking, globals_taking}
+use Rattle.hilti_effects.specs.Operands.{found, value_or_null, value_at, values_at, slots_with, globals_with}
 use Rattle.hilti_effects.specs.Asks.{IsThere, Gets}
-use Rattle.hilti_shapes.specs.Needs.{Kinds, Meets, Has, Have, needs, nothing}
-use Rattle.hilti_shapes.specs.TypedRows.{IsSource, AreSources, IsTarget, Receives}
+use Rattle.hilti_shapes.specs.Needs.{Kinds, Meets, Has, Have}
+use Rattle.hilti_shapes.specs.TypedRows.{IsSource, AreSources, IsTarget}
 use Rattle.hilti_shapes.proofs.Growing.{zip_at, zip_put}
 
 module _ (c : Context) (k : Kinds) (slots globals : List Value) (hs : Have c.declared k slots c.slots) (hg : Have c.declared k globals c.globals) where

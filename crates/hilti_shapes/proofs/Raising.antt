@@ -1,15 +1,12 @@
 -- A raise keeps types: a handler takes its text, or the function ends.
-use Rattle.std.proofs.Common.{◌≡◌, ℕ, ◌+◌, ◌<◌, Bool, true, false, IsTrue, List, [], ◌∷◌, ◌++◌, length, map, refl, sym, ap, ◌∙◌, Option, Some, None, IfSome, IsSomeAnd, find, slice_get}
-use Rattle.std.proofs.Math.Path.{subst}
+use Rattle.std.proofs.Common.{◌≡◌, ℕ, ◌<◌, Bool, List, length, refl, sym, ap, ◌∙◌, Option, Some, None, find}
 use Rattle.std.specs.Prelude.{slice_set}
-use Rattle.std.specs.List.{All, AllByRecursion, AllZip}
+use Rattle.std.specs.List.{All, AllByRecursion}
 use Rattle.std.proofs.lemmas.List.Folds.{find_at}
 use Rattle.std.specs.List.{position_or_len}
 use Rattle.std.proofs.lemmas.Option.{slice_get_within}
 use Rattle.hilti_base.specs.declared.refusal.Raise.{Raise}
 use Rattle.hilti_types.specs.declared.value_type.ValueType.TheVariants as types
-use Rattle.hilti_parts.specs.declared.parts.Block.{Block}
-use Rattle.hilti_parts.specs.declared.parts.Exception.{Exception}
 use Rattle.hilti_parts.specs.declared.parts.Handler.{Handler}
 use Rattle.hilti_parts.specs.declared.parts.Parts.{Parts}
 use Rattle.hilti_raise.specs.Handlers.{block_at}
@@ -25,8 +22,8 @@ use Rattle.hilti_stack.specs.Frames.{Frame, frame}
 use Rattle.hilti_effects.specs.State.{State, GoesBack}
 use Rattle.hilti_effects.specs.Raising.{catches, catching, to_block, to_handler, raised, as_action}
 use Rattle.hilti_shapes.specs.Needs.{Kinds, Grows, Has}
-use Rattle.hilti_shapes.specs.Places.{IsTypedProgram, IsAt, IsFrame, Chain, IsState, IsConfig}
-use Rattle.hilti_shapes.specs.Keeping.{GoesOn, Ends, Keeps, KeepsBack}
+use Rattle.hilti_shapes.specs.Places.{IsTypedProgram, IsAt, IsFrame, Chain, IsState}
+use Rattle.hilti_shapes.specs.Keeping.{GoesOn, Keeps, KeepsBack}
 use Rattle.hilti_shapes.proofs.Growing.{same_kinds, zip_put}
 use Rattle.hilti_shapes.proofs.Values.{has_text}
 use Rattle.hilti_shapes.proofs.Chains.{Same, chain_same, below_grow}
@@ -57,7 +54,7 @@ module _ (parts : Parts) (program : IsTypedProgram parts) (p : Position) (below 
       let t = typed h refl in
       goes k (same_kinds k) (to_block p h.block) (record { function = refl; target = refl }) (slice_set slots h.slot (values.Text text))
       (block_begins parts program p slots (slice_set slots h.slot (values.Text text)) k k h.block a t.goes_on
-        (zip_put (Has parts.types k) slots a.function.slots h.slot (values.Text text) types.Text a.slots_are t.text (has_text parts.types k text)))
+      (zip_put (Has parts.types k) slots a.function.slots h.slot (values.Text text) types.Text a.slots_are t.text (has_text parts.types k text)))
       st s
 
   pub raised_kept : (slots : List Value) (st : State) (e : ℕ) (text : List ℕ) (a : IsAt parts p slots k) → IsState parts k st → e < length parts.exceptions → KeepsBack parts k p below (raised parts p slots st e text)
@@ -65,7 +62,7 @@ module _ (parts : Parts) (program : IsTypedProgram parts) (p : Position) (below 
   raised_kept slots st e text a s there =
       handled slots st e text a s there (catching parts.exceptions e (block_at parts p.function.n p.block))
       (λ h i. found_holds (IsTypedHandler (context parts p.function.n a.function) a.function.params) (catches parts.exceptions e) a.block.handlers h (block_typed parts program p slots k a).handlers
-        (sym (ap (catching parts.exceptions e) (block_here parts program p slots k a)) ∙ i))
+      (sym (ap (catching parts.exceptions e) (block_here parts program p slots k a)) ∙ i))
 
   -- what instructions raise by themselves is an exception of the program
   pub raise_there : (r : Raise) → raise_number r < length parts.exceptions

@@ -1,5 +1,5 @@
 -- What scalar rows ask of typed values, and that they make typed values.
-use Rattle.std.proofs.Common.{◌≡◌, ℕ, ◌<◌, ◌%◌, ◌^◌, Bool, true, false, IsTrue, not, ◌&&◌, ◌||◌, List, [], ◌∷◌, refl, sym, ap, ◌∙◌, Option, Some, None, IfOk, Result, Ok, Err, cond, rules}
+use Rattle.std.proofs.Common.{◌≡◌, ℕ, ◌<◌, ◌%◌, ◌^◌, Bool, true, false, not, ◌&&◌, ◌||◌, List, sym, IfOk, Result, Ok, Err, cond}
 use Rattle.std.proofs.Math.Path.{subst}
 use Rattle.hilti_base.specs.declared.refusal.Raise.{Raise}
 use Rattle.hilti_int.specs.declared.width.Width.{Width}

@@ -1,15 +1,14 @@
 -- Sources of the types that typed operands have.
-use Rattle.std.proofs.Common.{◌≡◌, ℕ, ◌<◌, ◌^◌, Bool, true, false, IsTrue, List, [], ◌∷◌, refl, sym, ap, ◌∙◌, Option, Some, None, IsSome, IsSomeAnd, slice_get}
+use Rattle.std.proofs.Common.{◌≡◌, ℕ, ◌^◌, Bool, true, false, IsTrue, List, [], ◌∷◌, refl, sym, ap, ◌∙◌, Option, Some, None, slice_get}
 use Rattle.std.proofs.Math.Path.{subst}
 use Rattle.std.specs.Prelude.{nat_lt}
-use Rattle.std.specs.List.{AllZip}
 use Rattle.std.specs.Option.{option_map, option_and_then}
 use Rattle.std.proofs.lemmas.Bool.{false≢true}
 use Rattle.std.proofs.lemmas.Option.{same_Some}
 use Rattle.hilti_types.specs.declared.declared.Declared.{Declared}
 use Rattle.hilti_types.specs.declared.value_type.Inner.{Inner}
 use Rattle.hilti_types.specs.declared.value_type.Inner.TheOpen.{ValueType-F}
-use Rattle.hilti_types.specs.declared.value_type.ValueType.{ValueType, out-ValueType, roll-ValueType, roll-out-ValueType, out-roll-ValueType}
+use Rattle.hilti_types.specs.declared.value_type.ValueType.{ValueType, out-ValueType, roll-ValueType, roll-out-ValueType}
 use Rattle.hilti_types.specs.declared.value_type.ValueType.TheVariants as types
 use Rattle.hilti_tree.specs.declared.tree.Tree.{Tree, out-Tree, roll-Tree, roll-out-Tree}
 use Rattle.hilti_tree.specs.declared.tree.Tree.TheOpen.{Tree-F}
@@ -23,13 +22,13 @@ use Rattle.hilti_typing.specs.Context.{Context, variable_type}
 use Rattle.hilti_typing.specs.Types.{may_be_null}
 use Rattle.hilti_typing.specs.Fits.{Has as Fit, HaveAll, IsValue, is_wide, is_pick, is_constant}
 use Rattle.hilti_values.specs.Literals.{value_of}
-use Rattle.hilti_values.specs.declared.value.Value.{Value, roll-Value}
+use Rattle.hilti_values.specs.declared.value.Value.{Value}
 use Rattle.hilti_values.specs.declared.value.Value.TheOpen.{Value-F}
 use Rattle.hilti_values.specs.declared.value.Value.TheVariants as values
 use Rattle.hilti_rows.specs.Sources.{source_of, sources_of, variable_source, each_of, both}
 use Rattle.hilti_rows.specs.declared.row.Source.{Source}
 use Rattle.hilti_rows.specs.declared.row.Source.TheVariants as sources
-use Rattle.hilti_shapes.specs.Needs.{needs, needs_shape, nothing, nothing_if}
+use Rattle.hilti_shapes.specs.Needs.{needs, nothing, nothing_if}
 use Rattle.hilti_shapes.specs.TypedRows.{IsSource, AreSources}
 use Rattle.hilti_shapes.proofs.Values.{shape_needs}
 

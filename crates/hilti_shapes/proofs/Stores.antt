@@ -1,11 +1,9 @@
 -- Stores of typed objects, with more objects and with changed ones.
-use Rattle.std.proofs.Common.{◌≡◌, ◌≢◌, ℕ, ◌+◌, ◌<◌, ◌≤◌, List, [], ◌∷◌, refl, sym, ap, ◌∙◌, Option, Some, None, IsSomeAnd, arith, ◌⊎◌, inl, inr, ⊎_elim}
+use Rattle.std.proofs.Common.{◌≡◌, ◌≢◌, ℕ, ◌+◌, ◌<◌, List, sym, ap, ◌∙◌, Option, Some, None, IsSomeAnd, arith, ◌⊎◌, inl, inr}
 use Rattle.std.proofs.Math.Path.{subst}
 use Rattle.std.proofs.lemmas.Option.{same_Some}
 use Rattle.std.proofs.lemmas.Bool.Decides.{nat_tests}
 use Rattle.std.specs.Prelude.{slice_get, take}
-use Rattle.std.specs.List.{AllZip}
-use Rattle.hilti_types.specs.declared.declared.Declared.{Declared}
 use Rattle.hilti_types.specs.declared.value_type.Inner.{Inner, out-Inner}
 use Rattle.hilti_types.specs.declared.value_type.Inner.TheOpen.{Inner-F}
 use Rattle.hilti_types.specs.declared.value_type.ValueType.{ValueType}
@@ -17,7 +15,7 @@ use Rattle.hilti_heap.specs.declared.object.Object.TheVariants.{Struct, Bound}
 use Rattle.hilti_heap.specs.Kept.{with_at}
 use Rattle.hilti_heap.specs.Stores.{Store, added, changed}
 use Rattle.hilti_heap.proofs.Heaping.{with_here, with_there}
-use Rattle.hilti_shapes.specs.Needs.{ObjectType, ObjectType.Referred, ObjectType.Callable, Kinds, Have, MayHave, Grows, no_kinds}
+use Rattle.hilti_shapes.specs.Needs.{ObjectType, ObjectType.Referred, ObjectType.Callable, Kinds, Grows, no_kinds}
 use Rattle.hilti_shapes.specs.Objects.{field_types, IsStruct, CanRun, IsObject, Names, IsStore}
 use Rattle.hilti_shapes.proofs.Growing.{have_grow, fields_grow}
 

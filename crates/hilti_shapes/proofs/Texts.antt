@@ -1,5 +1,5 @@
 -- What is printed has a text.
-use Rattle.std.proofs.Common.{◌≡◌, ℕ, Bool, true, false, IsTrue, List, [], ◌∷◌, refl, sym, ap, ◌∙◌, Option, Some, None, IsSomeAnd, rules}
+use Rattle.std.proofs.Common.{◌≡◌, ℕ, IsTrue, List, refl, sym, ap, ◌∙◌, IsSomeAnd, rules}
 use Rattle.std.proofs.Math.Path.{subst}
 use Rattle.std.proofs.lemmas.Bool.{false≢true}
 use Rattle.hilti_types.specs.declared.declared.Declared.{Declared}
@@ -11,9 +11,8 @@ use Rattle.hilti_tree.specs.declared.tree.Tree.{Tree}
 use Rattle.hilti_tree.specs.declared.tree.Tree.TheVariants as trees
 use Rattle.hilti_print.specs.Trees.{HasText}
 use Rattle.hilti_values.specs.declared.value.Value.{Value, roll-Value}
-use Rattle.hilti_values.specs.declared.value.Value.TheVariants as values
 use Rattle.hilti_values.specs.declared.value.Value.TheOpen.{Value-F}
-use Rattle.hilti_values.specs.declared.value.Value.TheFolds.{map-Value, fold-Value, the_lemmas}
+use Rattle.hilti_values.specs.declared.value.Value.TheFolds.{map-Value, the_lemmas}
 use Rattle.hilti_effects.specs.Printing.{tree_of, tree_step}
 use Rattle.hilti_shapes.specs.Needs.{Needs, Kinds, Meets, Has, needs, needs_shape}
 use Rattle.hilti_shapes.specs.TypedRows.{has_text}

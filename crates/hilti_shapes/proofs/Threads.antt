@@ -1,7 +1,7 @@
 -- Fresh threads and entries are typed.
-use Rattle.std.proofs.Common.{◌≡◌, ℕ, List, [], ◌∷◌, map, refl, sym, ap, ◌∙◌, Option, Some, None, IsSomeAnd}
+use Rattle.std.proofs.Common.{◌≡◌, List, [], ◌∷◌, map, refl, sym, Option, Some, None, IsSomeAnd}
 use Rattle.std.proofs.Math.Path.{subst}
-use Rattle.std.specs.List.{All, AllByRecursion, AllZip}
+use Rattle.std.specs.List.{AllByRecursion, AllZip}
 use Rattle.std.proofs.lemmas.List.Elements.{recursion_from_All}
 use Rattle.hilti_types.specs.declared.declared.Declared.{Declared}
 use Rattle.hilti_types.specs.declared.value_type.ValueType.{ValueType}
@@ -15,7 +15,7 @@ use Rattle.hilti_values.specs.Literals.{value_of}
 use Rattle.hilti_values.specs.declared.value.Value.{Value}
 use Rattle.hilti_effects.specs.Operands.{value_or_null}
 use Rattle.hilti_shapes.specs.Needs.{Meets, Has, no_kinds}
-use Rattle.hilti_shapes.specs.Places.{IsTypedProgram, global_types}
+use Rattle.hilti_shapes.specs.Places.{IsTypedProgram}
 use Rattle.hilti_shapes.specs.Keeping.{FreshThreadsAreTyped, EntriesAreTyped}
 use Rattle.hilti_shapes.proofs.Sources.{literal_is}
 use Rattle.hilti_shapes.proofs.Stores.{empty_typed}

@@ -1,5 +1,5 @@
 -- The row of a typed instruction is typed: one case a mnemonic.
-use Rattle.std.proofs.Common.{◌≡◌, ℕ, ◌<◌, Bool, true, false, IsTrue, List, [], ◌∷◌, refl, sym, ap, ◌∙◌, Option, Some, None, IsSomeAnd}
+use Rattle.std.proofs.Common.{◌≡◌, ℕ, IsTrue, List, [], ◌∷◌, refl, sym, ap, ◌∙◌, Option, Some, None, IsSomeAnd}
 use Rattle.std.proofs.Math.Path.{subst}
 use Rattle.std.proofs.lemmas.List.Elements.{recursion_from_All}
 use Rattle.std.proofs.lemmas.Option.{same_Some}
@@ -25,7 +25,6 @@ use Rattle.hilti_typing.proofs.Meeting.{plain_rows, number_rows, own_rows, flow_
 use Rattle.hilti_typing.proofs.Calls.{call_rows}
 use Rattle.hilti_typing.proofs.Objects.{object_rows}
 use Rattle.hilti_typing.proofs.Records.{struct_rows, passed_tests, targets}
-use Rattle.hilti_rows.specs.declared.row.Printed.{Printed}
 use Rattle.hilti_rows.specs.declared.row.Row.{Row}
 use Rattle.hilti_rows.specs.declared.row.Row.TheVariants as rows
 use Rattle.hilti_rows.specs.declared.row.StructRow.TheVariants as structs
@@ -34,7 +33,7 @@ use Rattle.hilti_rows.specs.declared.row.Binary.TheVariants as binaries
 use Rattle.hilti_rows.specs.Sources.{source_of, printed_of, each_of}
 use Rattle.hilti_rows.specs.Resolving.{called, bound, jumps, branches, thrown, new_struct, struct_get, struct_set, struct_unset, struct_is_set, row_by, row_of}
 use Rattle.hilti_typing.specs.Fits.{field_number}
-use Rattle.hilti_shapes.specs.TypedRows.{IsSource, IsTarget, IsRow}
+use Rattle.hilti_shapes.specs.TypedRows.{IsSource, IsRow}
 use Rattle.hilti_shapes.proofs.Sources.{mapped, behind, both_are, source_is}
 use Rattle.hilti_shapes.proofs.Lines.{at_target, unary_row, binary_row, sized_row, compared_row, converted_row, selected_row, tested_row, called_row, bound_row, new_row, field_is, printed_items, jump_row, branch_row, result_row, throw_row}
 

@@ -1,7 +1,7 @@
 -- Values of types: what they are, and which values have a type.
-use Rattle.std.proofs.Common.{◌≡◌, ℕ, ◌<◌, ◌^◌, Bool, true, false, IsTrue, List, [], ◌∷◌, ◌++◌, refl, sym, ap, ◌∙◌, Option, Some, None, IsSomeAnd, arith, rules}
+use Rattle.std.proofs.Common.{◌≡◌, ℕ, ◌<◌, ◌^◌, Bool, true, false, IsTrue, List, refl, sym, ap, ◌∙◌, Some, IsSomeAnd, arith, rules}
 use Rattle.std.proofs.Math.Path.{subst}
-use Rattle.std.specs.Prelude.{nat_lt, slice_get}
+use Rattle.std.specs.Prelude.{nat_lt}
 use Rattle.std.proofs.lemmas.Bool.{false≢true}
 use Rattle.std.proofs.lemmas.Bool.Decides.{nat_tests}
 use Rattle.hilti_types.specs.declared.declared.Declared.{Declared}
@@ -12,8 +12,8 @@ use Rattle.hilti_types.specs.declared.value_type.ValueType.TheVariants as types
 use Rattle.hilti_values.specs.declared.value.Value.{Value, out-Value, roll-Value}
 use Rattle.hilti_values.specs.declared.value.Value.TheVariants as values
 use Rattle.hilti_values.specs.declared.value.Value.TheOpen.{Value-F}
-use Rattle.hilti_values.specs.declared.value.Value.TheFolds.{map-Value, fold-Value, the_lemmas}
-use Rattle.hilti_shapes.specs.Needs.{ObjectType, Needs, Kinds, Meets, Has, needs, needs_step, needs_shape, nothing, nothing_if, object_of}
+use Rattle.hilti_values.specs.declared.value.Value.TheFolds.{map-Value, the_lemmas}
+use Rattle.hilti_shapes.specs.Needs.{ObjectType, Needs, Kinds, Meets, Has, needs, needs_step, needs_shape, nothing_if}
 
 -- what values of a type are
 pub data IsTruth (v : Value) : Type 0 where
@@ -30,7 +30,6 @@ pub data Refers (k : Kinds) (to : Inner) (v : Value) : Type 0 where
   RefersTo : (s : ℕ) → v ≡ values.Ref s → k s ≡ Some (ObjectType.Referred to) → Refers k to v
 
 module _ (table : List Declared) where
-
   needs_out : (v : Value) (t : ValueType) → needs table v t ≡ needs_shape table (map-Value Value (ValueType → Needs) (needs table) (out-Value v)) (out-ValueType t)
   needs_out v t =
       let e : needs table v ≡ needs_step table (map-Value Value (ValueType → Needs) (needs table) (out-Value v)) = search (rules, the_lemmas) in
@@ -57,7 +56,7 @@ module _ (table : List Declared) where
       → (v : Value) → Has table k v t → P v
   by_shape k P t shape e f v h =
       let n : needs table v t ≡ needs_shape table (map-Value Value (ValueType → Needs) (needs table) (out-Value v)) shape
-          = needs_out v t ∙ ap (needs_shape table (map-Value Value (ValueType → Needs) (needs table) (out-Value v))) e in
+      = needs_out v t ∙ ap (needs_shape table (map-Value Value (ValueType → Needs) (needs table) (out-Value v))) e in
       subst P (back v) (f (out-Value v) (subst (λ o. IsSomeAnd o (Meets k)) n h))
 
   -- a value of a shape that has a type

@@ -1,5 +1,5 @@
 -- Calls that keep their types, step by step: what is so after an action, and back in a caller.
-use Rattle.std.specs.Prelude.{◌≡◌, ℕ, ◌+◌, ◌≤◌, List, [], ◌∷◌, ◌++◌, take, slice_get, Option, Some, None}
+use Rattle.std.specs.Prelude.{◌≡◌, ℕ, ◌+◌, ◌≤◌, List, [], ◌∷◌, ◌++◌, take, slice_get, Option, Some}
 use Rattle.std.specs.List.{AllByRecursion}
 use Rattle.hilti_base.specs.declared.names.FnId.{FnId}
 use Rattle.hilti_parts.specs.declared.parts.Function.{Function}
@@ -9,7 +9,7 @@ use Rattle.hilti_calls.specs.Calls.{Action.Go, Action.Call, Action.Leave, Back.O
 use Rattle.hilti_values.specs.declared.value.Value.{Value}
 use Rattle.hilti_stack.specs.declared.head.Head.TheVariants as heads
 use Rattle.hilti_stack.specs.declared.head.Position.{Position}
-use Rattle.hilti_stack.specs.Frames.{Frame, Frames, frame, with_slots}
+use Rattle.hilti_stack.specs.Frames.{Frame, Frames, frame}
 use Rattle.hilti_heap.specs.Held.{all_held}
 use Rattle.hilti_heap.specs.Kept.{Kept}
 use Rattle.hilti_heap.specs.Stands.{StandsFor, Fits}
@@ -20,7 +20,7 @@ use Rattle.hilti_effects.specs.Acting.{act, resume, entry}
 use Rattle.hilti_effects.specs.Asks.{Ready}
 use Rattle.hilti_effects.specs.Effect.{fresh}
 use Rattle.hilti_shapes.specs.Needs.{Kinds, Have, Grows, no_kinds}
-use Rattle.hilti_shapes.specs.Places.{IsTypedProgram, IsAt, IsFrame, Chain, IsState, IsConfig}
+use Rattle.hilti_shapes.specs.Places.{IsFrame, Chain, IsState, IsConfig}
 use Rattle.hilti_shapes.specs.Places.{IsTypedEnding}
 
 -- a frame and a thread are a call in progress above these frames, by types that grew

@@ -1,8 +1,8 @@
 -- Typed programs, and calls in progress whose values are of their types.
-use Rattle.std.specs.Prelude.{◌≡◌, ℕ, ◌<◌, List, [], ◌∷◌, length, map, slice_get, Option, Some, None}
+use Rattle.std.specs.Prelude.{◌≡◌, ◌<◌, List, [], ◌∷◌, length, map, slice_get, Option, Some}
 use Rattle.std.specs.Prelude.{IfSome, IsSome, IsTrue, Bool, true}
 use Rattle.std.specs.List.{All, AllByRecursion, list_all}
-use Rattle.std.specs.Option.{option_map, option_and_then}
+use Rattle.std.specs.Option.{option_and_then}
 use Rattle.hilti_types.specs.declared.declared.Declared.{Declared}
 use Rattle.hilti_types.specs.declared.value_type.Inner.TheOpen.{Inner-F, ValueType-F}
 use Rattle.hilti_types.specs.declared.value_type.Inner.TheFolds.{fold-ValueType}
@@ -12,7 +12,6 @@ use Rattle.hilti_parts.specs.declared.parts.Function.{Function}
 use Rattle.hilti_parts.specs.declared.parts.Global.{Global}
 use Rattle.hilti_parts.specs.declared.parts.Instruction.{Instruction}
 use Rattle.hilti_parts.specs.declared.parts.Parts.{Parts}
-use Rattle.hilti_parts.specs.declared.parts.Variable.{Variable}
 use Rattle.hilti_typing.specs.Fits.{is_constant}
 use Rattle.hilti_typing.specs.Programs.{AreTyped, context}
 use Rattle.hilti_rows.specs.Resolving.{row_of}

@@ -1,5 +1,5 @@
 -- Typed rows: sources and targets of the types that a row computes with, in the context of a body.
-use Rattle.std.specs.Prelude.{◌≡◌, ℕ, ◌<◌, List, length, map, slice_get, Option, Some, None}
+use Rattle.std.specs.Prelude.{◌≡◌, ℕ, ◌<◌, List, slice_get, Option, Some, None}
 use Rattle.std.specs.Prelude.{IfSome, IsSomeAnd, IsTrue, Bool, true, false}
 use Rattle.std.specs.List.{AllByRecursion, AllZip}
 use Rattle.hilti_int.specs.Integers.{bits_of}
