@@ -16,11 +16,13 @@ use Rattle.hilti_shapes.specs.TypedRows.{Receives}
 use Rattle.hilti_shapes.specs.Places.{IsAt, IsHeadAt, IsFrame, result_type, TakesFrom, Chain}
 use Rattle.hilti_shapes.proofs.Growing.{all_meet, have_grow}
 
-pub all_push : {A : Type 0} (P : A → Type 0) (xs : List A) (x : A) → AllByRecursion P xs → P x → AllByRecursion P (xs ++ x ∷ [])
+pub all_push : {A : Type 0} (P : A → Type 0) (xs : List A) (x : A) → AllByRecursion P xs → P x
+    → AllByRecursion P (xs ++ x ∷ [])
 all_push P [] x h p = (p, tt)
 all_push P (y ∷ xs) x h p = (h.0, all_push P xs x h.1 p)
 
-pub all_front : {A : Type 0} (P : A → Type 0) (xs : List A) (x : A) → AllByRecursion P (xs ++ x ∷ []) → AllByRecursion P xs
+pub all_front : {A : Type 0} (P : A → Type 0) (xs : List A) (x : A) → AllByRecursion P (xs ++ x ∷ [])
+    → AllByRecursion P xs
 all_front P [] x h = tt
 all_front P (y ∷ xs) x h = (h.0, all_front P xs x h.1)
 
@@ -36,8 +38,11 @@ pub record Same (t u : Position) : Type 0 where
 module _ (parts : Parts) where
   takes_same : (caller : Head) (t u : Position) → Same t u → TakesFrom parts caller t → TakesFrom parts caller u
   takes_same (heads.Function c) t u s h =
-      subst (λ x. IfSome (slice_get parts.functions c.function.n) (λ f. Receives (context parts c.function.n f) x (result_type parts u))) (sym s.target)
-      (subst (λ g. IfSome (slice_get parts.functions c.function.n) (λ f. Receives (context parts c.function.n f) t.target (option_and_then (λ (f : Function). f.result) (slice_get parts.functions g.n)))) (sym s.function) h)
+      subst (λ x. IfSome (slice_get parts.functions c.function.n) (λ f. Receives (context parts c.function.n f) x
+      (result_type parts u))) (sym s.target)
+      (subst (λ g. IfSome (slice_get parts.functions c.function.n) (λ f. Receives (context parts c.function.n f)
+      t.target (option_and_then (λ (f : Function). f.result) (slice_get parts.functions g.n)))) (sym s.function)
+      h)
   takes_same (heads.Hook hook next) t u s h = absurd h
   takes_same heads.Advance t u s h = absurd h
 
@@ -46,17 +51,20 @@ module _ (parts : Parts) where
   chain_same (w ∷ []) t u s h = (takes_same w.head t u s h.0, tt)
   chain_same (w ∷ v ∷ ws) t u s h = (h.0, chain_same (v ∷ ws) t u s h.1)
 
-  pub chain_push : (ws : List Frame) (slots : List Value) (t q u : Position) → Same t q → Chain parts ws t → TakesFrom parts (heads.Function q) u → Chain parts (ws ++ frame (heads.Function q) slots ∷ []) u
+  pub chain_push : (ws : List Frame) (slots : List Value) (t q u : Position) → Same t q → Chain parts ws t
+      → TakesFrom parts (heads.Function q) u → Chain parts (ws ++ frame (heads.Function q) slots ∷ []) u
   chain_push [] slots t q u s h g = (g, tt)
   chain_push (v ∷ []) slots t q u s h g = (takes_same v.head t q s h.0, (g, tt))
   chain_push (v ∷ x ∷ ws) slots t q u s h g = (h.0, chain_push (x ∷ ws) slots t q u s h.1 g)
 
-  pub chain_pop : (ws : List Frame) (slots : List Value) (q u : Position) → Chain parts (ws ++ frame (heads.Function q) slots ∷ []) u → Chain parts ws q
+  pub chain_pop : (ws : List Frame) (slots : List Value) (q u : Position)
+      → Chain parts (ws ++ frame (heads.Function q) slots ∷ []) u → Chain parts ws q
   chain_pop [] slots q u h = tt
   chain_pop (v ∷ []) slots q u h = (h.0, tt)
   chain_pop (v ∷ x ∷ ws) slots q u h = (h.0, chain_pop (x ∷ ws) slots q u h.1)
 
-  pub chain_last : (ws : List Frame) (slots : List Value) (q u : Position) → Chain parts (ws ++ frame (heads.Function q) slots ∷ []) u → TakesFrom parts (heads.Function q) u
+  pub chain_last : (ws : List Frame) (slots : List Value) (q u : Position)
+      → Chain parts (ws ++ frame (heads.Function q) slots ∷ []) u → TakesFrom parts (heads.Function q) u
   chain_last [] slots q u h = h.0
   chain_last (v ∷ []) slots q u h = h.1.0
   chain_last (v ∷ x ∷ ws) slots q u h = chain_last (x ∷ ws) slots q u h.1

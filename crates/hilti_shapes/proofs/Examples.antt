@@ -1,5 +1,6 @@
 -- Some calls in progress that are typed, and some that aren't.
-use Rattle.std.proofs.Common.{◌≡◌, ℕ, ◌<◌, true, List, [], ◌∷◌, refl, sym, ap, ◌∙◌, length, Some, None, IsSomeAnd, slice_get, arith}
+use Rattle.std.proofs.Common.{◌≡◌, ℕ, ◌<◌, true, List, [], ◌∷◌, refl, sym, ap, ◌∙◌, length, Some}
+use Rattle.std.proofs.Common.{None, IsSomeAnd, slice_get, arith}
 use Rattle.std.proofs.Math.Path.{subst}
 use Rattle.std.proofs.lemmas.Option.{same_Some}
 use Rattle.hilti_types.specs.declared.value_type.Inner.TheOpen.{ValueType-F}
@@ -13,15 +14,19 @@ use Rattle.hilti_values.specs.declared.value.Value.TheVariants as values
 use Rattle.hilti_values.specs.declared.value.Value.TheOpen.{Value-F}
 use Rattle.hilti_shapes.specs.Needs.{Meets, Has, Have, no_kinds, ObjectType.Referred}
 use Rattle.hilti_shapes.specs.Places.{IsAt}
-use Rattle.hilti_shapes.specs.Examples.{beginning, packet_slots, TypedBeginning, UntypedBeginnings, one_struct, TypedValues}
+use Rattle.hilti_shapes.specs.Examples.{beginning, packet_slots, TypedBeginning, UntypedBeginnings}
+use Rattle.hilti_shapes.specs.Examples.{one_struct, TypedValues}
 use Rattle.hilti_shapes.proofs.Stores.{empty_typed}
-use Rattle.hilti_shapes.proofs.Values.{shape_needs, has_bool, has_text, has_int, has_ref, has_null, is_number, IsNumber, NumberIs}
+use Rattle.hilti_shapes.proofs.Values.{shape_needs, has_bool, has_text, has_int, has_ref, has_null}
+use Rattle.hilti_shapes.proofs.Values.{is_number, IsNumber, NumberIs}
 
 has_time : (n : ℕ) → Has [] no_kinds (values.Time n) types.Time
-has_time n = subst (λ o. IsSomeAnd o (Meets no_kinds)) (sym (shape_needs [] (Value-F.Time n) (values.Time n) ValueType-F.Time types.Time (values.rolls-Time n) types.rolls-Time)) tt
+has_time n = subst (λ o. IsSomeAnd o (Meets no_kinds)) (sym (shape_needs [] (Value-F.Time n) (values.Time n)
+    ValueType-F.Time types.Time (values.rolls-Time n) types.rolls-Time)) tt
 
 has_bytes : (bytes : List ℕ) → Has [] no_kinds (values.Bytes bytes) types.Bytes
-has_bytes bytes = subst (λ o. IsSomeAnd o (Meets no_kinds)) (sym (shape_needs [] (Value-F.Bytes bytes) (values.Bytes bytes) ValueType-F.Bytes types.Bytes (values.rolls-Bytes bytes) types.rolls-Bytes)) tt
+has_bytes bytes = subst (λ o. IsSomeAnd o (Meets no_kinds)) (sym (shape_needs [] (Value-F.Bytes bytes) (values.Bytes
+    bytes) ValueType-F.Bytes types.Bytes (values.rolls-Bytes bytes) types.rolls-Bytes)) tt
 
 pub typed_beginning : TypedBeginning
 typed_beginning = record {
@@ -40,10 +45,12 @@ typed_beginning = record {
 }
 
 no_number_truth : (n : ℕ) → Has [] no_kinds (values.Int n) types.Bool → ⊥
-no_number_truth n h = subst (λ o. IsSomeAnd o (Meets no_kinds)) (shape_needs [] (Value-F.Int n) (values.Int n) ValueType-F.Bool types.Bool (values.rolls-Int n) types.rolls-Bool) h
+no_number_truth n h = subst (λ o. IsSomeAnd o (Meets no_kinds)) (shape_needs [] (Value-F.Int n) (values.Int n)
+    ValueType-F.Bool types.Bool (values.rolls-Int n) types.rolls-Bool) h
 
 few_slots : (f : Function) → Some packet ≡ Some f → Have [] no_kinds (values.Time 5 ∷ []) f.slots → ⊥
-few_slots f e h = let g = subst (λ (f : Function). Have [] no_kinds (values.Time 5 ∷ []) f.slots) (sym (same_Some packet f e)) h in g.1
+few_slots f e h = let g = subst (λ (f : Function). Have [] no_kinds (values.Time 5 ∷ []) f.slots) (sym (same_Some
+    packet f e)) h in g.1
 
 no_place : (f : Function) (b : Block) → Some packet ≡ Some f → slice_get f.blocks 0 ≡ Some b → 1 < 1 → ⊥
 no_place f b e i h = omega (arith, h)
@@ -59,8 +66,10 @@ untyped_beginnings = record {
     behind : IsAt whole (record beginning { at = 1 }) packet_slots no_kinds → ⊥
     behind a =
         let f = same_Some packet a.function a.in_parts in
-        let b : slice_get packet.blocks 0 ≡ Some a.block = ap (λ (f : Function). slice_get f.blocks 0) f ∙ a.in_function in
-        let w = subst (λ (b : Block). 1 < length b.instructions) (sym (same_Some _ a.block b)) a.within in omega (arith, w)
+        let b : slice_get packet.blocks 0 ≡ Some a.block = ap (λ (f : Function). slice_get f.blocks 0) f
+        ∙ a.in_function in
+        let w = subst (λ (b : Block). 1 < length b.instructions) (sym (same_Some _ a.block b)) a.within in omega
+        (arith, w)
 
     some_made : values.Null ∷ [] ≡ [] → ⊥
     some_made e = cc
@@ -77,7 +86,9 @@ not_wide (NumberIs n e h) = let i = same_int 256 n e in omega (arith, i, h)
 
 other_object : Has [] one_struct (values.Ref 1) (types.Ref (inners.Struct 0)) → ⊥
 other_object h =
-    let g = subst (λ o. IsSomeAnd o (Meets one_struct)) (shape_needs [] (Value-F.Ref 1) (values.Ref 1) (ValueType-F.Ref (inners.Struct 0)) (types.Ref (inners.Struct 0)) (values.rolls-Ref 1) (types.rolls-Ref (inners.Struct 0))) h in
+    let g = subst (λ o. IsSomeAnd o (Meets one_struct)) (shape_needs [] (Value-F.Ref 1) (values.Ref 1)
+    (ValueType-F.Ref (inners.Struct 0)) (types.Ref (inners.Struct 0)) (values.rolls-Ref 1) (types.rolls-Ref
+    (inners.Struct 0))) h in
     none_there g.0
   where
     none_there : None ≡ Some (Referred (inners.Struct 0)) → ⊥

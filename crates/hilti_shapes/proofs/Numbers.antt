@@ -1,5 +1,6 @@
 -- What is computed of whole numbers of a width is one.
-use Rattle.std.proofs.Common.{◌≡◌, ℕ, zero, suc, ◌+◌, ◌*◌, ◌/◌, ◌%◌, ◌^◌, ◌<◌, ◌≤◌, Bool, true, false, ◌&&◌, refl, Ok, Err, IfOk, arith}
+use Rattle.std.proofs.Common.{◌≡◌, ℕ, zero, suc, ◌+◌, ◌*◌, ◌/◌, ◌%◌, ◌^◌, ◌<◌, ◌≤◌, Bool, true}
+use Rattle.std.proofs.Common.{false, ◌&&◌, refl, Ok, Err, IfOk, arith}
 use Rattle.std.specs.Prelude.{nat_le, ◌==◌, pos, ◌-ℤ◌, int_div, int_rem, if◌then◌else◌}
 use Rattle.std.specs.Int.{int_shr}
 use Rattle.std.proofs.lemmas.Bool.Decides.{nat_tests}
@@ -25,7 +26,8 @@ no_zero : (b : ℕ) → (true && (b == 0)) ≡ false → 0 < b
 no_zero b h = grind (arith, nat_tests, h)
 
 -- where it doesn't raise
-fits : (op : IntOp) (bits a b : ℕ) → a < 2 ^ bits → b < 2 ^ bits → (divides op && (b == 0)) ≡ false → overflows op bits a b ≡ false → value_of op bits a b < 2 ^ bits
+fits : (op : IntOp) (bits a b : ℕ) → a < 2 ^ bits → b < 2 ^ bits → (divides op && (b == 0)) ≡ false
+    → overflows op bits a b ≡ false → value_of op bits a b < 2 ^ bits
 fits ops.Add bits a b f g z o = mod_below (a + b) (2 ^ bits) (pow_pos bits)
 fits ops.Sub bits a b f g z o = wrapped_below bits (pos a -ℤ pos b)
 fits ops.Mul bits a b f g z o = mod_below (a * b) (2 ^ bits) (pow_pos bits)
@@ -45,13 +47,16 @@ fits ops.MulExact bits a b f g z o = grind (arith, nat_tests, o)
 fits ops.ShlExact bits a b f g z o = grind (arith, nat_tests, o)
 fits ops.SdivExact bits a b f g z o = wrapped_below bits (int_div (signed bits a) (signed bits b))
 
-by_tests : (x y : Bool) (v m : ℕ) (e f : Raise) → (x ≡ false → y ≡ false → v < m) → IfOk (if x then Err e else if y then Err f else Ok v) (λ n. n < m)
+by_tests : (x y : Bool) (v m : ℕ) (e f : Raise) → (x ≡ false → y ≡ false → v < m)
+    → IfOk (if x then Err e else if y then Err f else Ok v) (λ n. n < m)
 by_tests true y v m e f h = tt
 by_tests false true v m e f h = tt
 by_tests false false v m e f h = h refl refl
 
-pub outcome_fits : (op : IntOp) (bits a b : ℕ) → a < 2 ^ bits → b < 2 ^ bits → IfOk (outcome_of op bits a b) (λ n. n < 2 ^ bits)
-outcome_fits op bits a b f g = by_tests (divides op && (b == 0)) (overflows op bits a b) (value_of op bits a b) (2 ^ bits) raises.DivisionByZero raises.ValueError (fits op bits a b f g)
+pub outcome_fits : (op : IntOp) (bits a b : ℕ) → a < 2 ^ bits → b < 2 ^ bits
+    → IfOk (outcome_of op bits a b) (λ n. n < 2 ^ bits)
+outcome_fits op bits a b f g = by_tests (divides op && (b == 0)) (overflows op bits a b) (value_of op bits a b) (2 ^
+    bits) raises.DivisionByZero raises.ValueError (fits op bits a b f g)
 
 by_test : (x : Bool) (v m : ℕ) (e : Raise) → (x ≡ false → v < m) → IfOk (if x then Err e else Ok v) (λ n. n < m)
 by_test true v m e h = tt

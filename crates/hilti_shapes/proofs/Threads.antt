@@ -46,25 +46,30 @@ module _ (table : List Declared) where
   none_shape t (Tree-F.Set items) = subst (HasNone t) (sym (trees.rolls-Set items)) (λ is e. is)
   none_shape t (Tree-F.Map keys vals) = subst (HasNone t) (sym (trees.rolls-Map keys vals)) (λ is e. is)
   none_shape t (Tree-F.Fields fields) = subst (HasNone t) (sym (trees.rolls-Fields fields)) (λ is e. is)
-  none_shape t (Tree-F.Rules rules ranks vals compiled) = subst (HasNone t) (sym (trees.rolls-Rules rules ranks vals compiled)) (λ is e. is)
+  none_shape t (Tree-F.Rules rules ranks vals compiled) = subst (HasNone t) (sym (trees.rolls-Rules rules ranks vals
+      compiled)) (λ is e. is)
 
   has_none : (t : ValueType) (tree : Tree) → HasNone t tree
   has_none t tree = subst (HasNone t) (roll-out-Tree tree) (none_shape t (out-Tree tree))
 
-  first_of : (t : ValueType) (tree : Tree) (o : Option Value) → IsValue table t tree → value_of tree ≡ o → Has table no_kinds (value_or_null o) t
+  first_of : (t : ValueType) (tree : Tree) (o : Option Value) → IsValue table t tree → value_of tree ≡ o
+      → Has table no_kinds (value_or_null o) t
   first_of t tree None is e = absurd (has_none t tree is e)
   first_of t tree (Some v) is e = subst (λ o. IsSomeAnd o (Meets no_kinds)) (sym (literal_is table t tree v is e)) tt
 
   firsts_of : (gs : List Global) → AllByRecursion (λ (g : Global). IsValue table g.kind g.first) gs
-      → AllZip (Has table no_kinds) (map (λ (g : Global). value_or_null (value_of g.first)) gs) (map (λ (g : Global). g.kind) gs)
+      → AllZip (Has table no_kinds) (map (λ (g : Global). value_or_null (value_of g.first)) gs) (map (λ (g : Global).
+      g.kind) gs)
   firsts_of [] h = tt
   firsts_of (g ∷ gs) h = (first_of g.kind g.first (value_of g.first) h.0 refl, firsts_of gs h.1)
 
 pub fresh_threads_are_typed : (parts : Parts) → IsTypedProgram parts → FreshThreadsAreTyped parts
 fresh_threads_are_typed parts program number = record {
-  globals_are = firsts_of parts.types parts.globals (recursion_from_All (λ (g : Global). IsValue parts.types g.kind g.first) parts.globals program.typed.globals);
+  globals_are = firsts_of parts.types parts.globals (recursion_from_All (λ (g : Global). IsValue parts.types g.kind
+      g.first) parts.globals program.typed.globals);
   store_is = empty_typed parts;
 }
 
 pub entries_are_typed : (parts : Parts) → IsTypedProgram parts → EntriesAreTyped parts
-entries_are_typed parts program f function target arguments kinds e h = entry_at parts program f function target arguments kinds e h
+entries_are_typed parts program f function target arguments kinds e h = entry_at parts program f function target
+    arguments kinds e h

@@ -1,5 +1,6 @@
 -- Values of types: what they are, and which values have a type.
-use Rattle.std.proofs.Common.{◌≡◌, ℕ, ◌<◌, ◌^◌, Bool, true, false, IsTrue, List, refl, sym, ap, ◌∙◌, Some, IsSomeAnd, arith, rules}
+use Rattle.std.proofs.Common.{◌≡◌, ℕ, ◌<◌, ◌^◌, Bool, true, false, IsTrue, List, refl, sym, ap, ◌∙◌}
+use Rattle.std.proofs.Common.{Some, IsSomeAnd, arith, rules}
 use Rattle.std.proofs.Math.Path.{subst}
 use Rattle.std.specs.Prelude.{nat_lt}
 use Rattle.std.proofs.lemmas.Bool.{false≢true}
@@ -7,7 +8,8 @@ use Rattle.std.proofs.lemmas.Bool.Decides.{nat_tests}
 use Rattle.hilti_types.specs.declared.declared.Declared.{Declared}
 use Rattle.hilti_types.specs.declared.value_type.Inner.{Inner}
 use Rattle.hilti_types.specs.declared.value_type.Inner.TheOpen.{ValueType-F}
-use Rattle.hilti_types.specs.declared.value_type.ValueType.{ValueType, out-ValueType, roll-ValueType, out-roll-ValueType}
+use Rattle.hilti_types.specs.declared.value_type.ValueType.{ValueType, out-ValueType}
+use Rattle.hilti_types.specs.declared.value_type.ValueType.{roll-ValueType, out-roll-ValueType}
 use Rattle.hilti_types.specs.declared.value_type.ValueType.TheVariants as types
 use Rattle.hilti_values.specs.declared.value.Value.{Value, out-Value, roll-Value}
 use Rattle.hilti_values.specs.declared.value.Value.TheVariants as values
@@ -30,40 +32,53 @@ pub data Refers (k : Kinds) (to : Inner) (v : Value) : Type 0 where
   RefersTo : (s : ℕ) → v ≡ values.Ref s → k s ≡ Some (ObjectType.Referred to) → Refers k to v
 
 module _ (table : List Declared) where
-  needs_out : (v : Value) (t : ValueType) → needs table v t ≡ needs_shape table (map-Value Value (ValueType → Needs) (needs table) (out-Value v)) (out-ValueType t)
+  needs_out : (v : Value) (t : ValueType) → needs table v t ≡ needs_shape table (map-Value Value (ValueType
+      → Needs) (needs table) (out-Value v)) (out-ValueType t)
   needs_out v t =
-      let e : needs table v ≡ needs_step table (map-Value Value (ValueType → Needs) (needs table) (out-Value v)) = search (rules, the_lemmas) in
+      let e : needs table v ≡ needs_step table (map-Value Value (ValueType
+      → Needs) (needs table) (out-Value v)) = search (rules, the_lemmas) in
       ap (λ (f : ValueType → Needs). f t) e
 
-  needs_roll : (x : Value-F Value) (t : ValueType) → needs table (roll-Value x) t ≡ needs_shape table (map-Value Value (ValueType → Needs) (needs table) x) (out-ValueType t)
+  needs_roll : (x : Value-F Value) (t : ValueType)
+      → needs table (roll-Value x) t ≡ needs_shape table (map-Value Value (ValueType
+      → Needs) (needs table) x) (out-ValueType t)
   needs_roll x t =
-      let e : needs table (roll-Value x) ≡ needs_step table (map-Value Value (ValueType → Needs) (needs table) x) = search (rules, the_lemmas) in
+      let e : needs table (roll-Value x) ≡ needs_step table (map-Value Value (ValueType
+      → Needs) (needs table) x) = search (rules, the_lemmas) in
       ap (λ (f : ValueType → Needs). f t) e
 
   -- what a value of a shape needs of a type of a shape
-  pub shape_needs : (x : Value-F Value) (v : Value) (shape : ValueType-F Inner ValueType) (t : ValueType) → roll-Value x ≡ v → roll-ValueType shape ≡ t
+  pub shape_needs : (x : Value-F Value) (v : Value) (shape : ValueType-F Inner ValueType) (t : ValueType)
+      → roll-Value x ≡ v → roll-ValueType shape ≡ t
       → needs table v t ≡ needs_shape table (map-Value Value (ValueType → Needs) (needs table) x) shape
   shape_needs x v shape t e f =
       ap (λ v. needs table v t) (sym e) ∙ needs_roll x t
-      ∙ ap (needs_shape table (map-Value Value (ValueType → Needs) (needs table) x)) (ap out-ValueType (sym f) ∙ out-roll-ValueType shape)
+      ∙ ap (needs_shape table (map-Value Value (ValueType → Needs) (needs table) x)) (ap out-ValueType (sym f)
+      ∙ out-roll-ValueType shape)
 
   back : (v : Value) → roll-Value (out-Value v) ≡ v
   back v = search (rules, the_lemmas)
 
   -- what is so of each shape that has a type is so of each value that has it
-  pub by_shape : (k : Kinds) (P : Value → Type 0) (t : ValueType) (shape : ValueType-F Inner ValueType) → out-ValueType t ≡ shape
-      → ((x : Value-F Value) → IsSomeAnd (needs_shape table (map-Value Value (ValueType → Needs) (needs table) x) shape) (Meets k) → P (roll-Value x))
+  pub by_shape : (k : Kinds) (P : Value → Type 0) (t : ValueType) (shape : ValueType-F Inner ValueType)
+      → out-ValueType t ≡ shape
+      → ((x : Value-F Value) → IsSomeAnd (needs_shape table (map-Value Value (ValueType
+      → Needs) (needs table) x) shape) (Meets k) → P (roll-Value x))
       → (v : Value) → Has table k v t → P v
   by_shape k P t shape e f v h =
-      let n : needs table v t ≡ needs_shape table (map-Value Value (ValueType → Needs) (needs table) (out-Value v)) shape
+      let n : needs table v t ≡ needs_shape table (map-Value Value (ValueType
+      → Needs) (needs table) (out-Value v)) shape
       = needs_out v t ∙ ap (needs_shape table (map-Value Value (ValueType → Needs) (needs table) (out-Value v))) e in
       subst P (back v) (f (out-Value v) (subst (λ o. IsSomeAnd o (Meets k)) n h))
 
   -- a value of a shape that has a type
-  of_shape : (k : Kinds) (x : Value-F Value) (t : ValueType) (shape : ValueType-F Inner ValueType) → out-ValueType t ≡ shape
-      → IsSomeAnd (needs_shape table (map-Value Value (ValueType → Needs) (needs table) x) shape) (Meets k) → Has table k (roll-Value x) t
+  of_shape : (k : Kinds) (x : Value-F Value) (t : ValueType) (shape : ValueType-F Inner ValueType)
+      → out-ValueType t ≡ shape
+      → IsSomeAnd (needs_shape table (map-Value Value (ValueType → Needs) (needs table) x) shape) (Meets k)
+      → Has table k (roll-Value x) t
   of_shape k x t shape e h =
-      subst (λ o. IsSomeAnd o (Meets k)) (sym (needs_roll x t ∙ ap (needs_shape table (map-Value Value (ValueType → Needs) (needs table) x)) e)) h
+      subst (λ o. IsSomeAnd o (Meets k)) (sym (needs_roll x t ∙ ap (needs_shape table (map-Value Value (ValueType
+      → Needs) (needs table) x)) e)) h
 
   -- the shapes of types
   out_bool : out-ValueType types.Bool ≡ ValueType-F.Bool
@@ -82,14 +97,17 @@ module _ (table : List Declared) where
   out_callable = ap out-ValueType (sym types.rolls-Callable) ∙ out-roll-ValueType ValueType-F.Callable
 
   pub has_null : (k : Kinds) (to : Inner) → Has table k values.Null (types.Ref to)
-  has_null k to = subst (λ v. Has table k v (types.Ref to)) values.rolls-Null (of_shape k Value-F.Null (types.Ref to) (ValueType-F.Ref to) (out_ref to) tt)
+  has_null k to = subst (λ v. Has table k v (types.Ref to)) values.rolls-Null (of_shape k Value-F.Null (types.Ref to)
+      (ValueType-F.Ref to) (out_ref to) tt)
 
   -- values that have a type
   pub has_bool : (k : Kinds) (b : Bool) → Has table k (values.Bool b) types.Bool
-  has_bool k b = subst (λ v. Has table k v types.Bool) (values.rolls-Bool b) (of_shape k (Value-F.Bool b) types.Bool ValueType-F.Bool out_bool tt)
+  has_bool k b = subst (λ v. Has table k v types.Bool) (values.rolls-Bool b) (of_shape k (Value-F.Bool b) types.Bool
+      ValueType-F.Bool out_bool tt)
 
   pub has_text : (k : Kinds) (bytes : List ℕ) → Has table k (values.Text bytes) types.Text
-  has_text k bytes = subst (λ v. Has table k v types.Text) (values.rolls-Text bytes) (of_shape k (Value-F.Text bytes) types.Text ValueType-F.Text out_text tt)
+  has_text k bytes = subst (λ v. Has table k v types.Text) (values.rolls-Text bytes) (of_shape k (Value-F.Text bytes)
+      types.Text ValueType-F.Text out_text tt)
 
   fits_if : (k : Kinds) (b : Bool) → IsTrue b → IsSomeAnd (nothing_if b) (Meets k)
   fits_if k true h = tt
@@ -103,9 +121,11 @@ module _ (table : List Declared) where
 
   pub has_int : (k : Kinds) (n bits : ℕ) → n < 2 ^ bits → Has table k (values.Int n) (types.Int bits)
   has_int k n bits h = subst (λ v. Has table k v (types.Int bits)) (values.rolls-Int n)
-      (of_shape k (Value-F.Int n) (types.Int bits) (ValueType-F.Int bits) (out_int bits) (fits_if k (nat_lt n (2 ^ bits)) (below_true n (2 ^ bits) h)))
+      (of_shape k (Value-F.Int n) (types.Int bits) (ValueType-F.Int bits) (out_int bits) (fits_if k (nat_lt n (2 ^
+      bits)) (below_true n (2 ^ bits) h)))
 
-  pub has_ref : (k : Kinds) (s : ℕ) (to : Inner) → k s ≡ Some (ObjectType.Referred to) → Has table k (values.Ref s) (types.Ref to)
+  pub has_ref : (k : Kinds) (s : ℕ) (to : Inner) → k s ≡ Some (ObjectType.Referred to)
+      → Has table k (values.Ref s) (types.Ref to)
   has_ref k s to h = subst (λ v. Has table k v (types.Ref to)) (values.rolls-Ref s)
       (of_shape k (Value-F.Ref s) (types.Ref to) (ValueType-F.Ref to) (out_ref to) (h, tt))
 
@@ -113,7 +133,8 @@ module _ (table : List Declared) where
   has_callable k s h = subst (λ v. Has table k v types.Callable) (values.rolls-Ref s)
       (of_shape k (Value-F.Ref s) types.Callable ValueType-F.Callable out_callable (h, tt))
 
-  truth_shape : (k : Kinds) (x : Value-F Value) → IsSomeAnd (needs_shape table (map-Value Value (ValueType → Needs) (needs table) x) ValueType-F.Bool) (Meets k) → IsTruth (roll-Value x)
+  truth_shape : (k : Kinds) (x : Value-F Value) → IsSomeAnd (needs_shape table (map-Value Value (ValueType
+      → Needs) (needs table) x) ValueType-F.Bool) (Meets k) → IsTruth (roll-Value x)
   truth_shape k (Value-F.Bool b) h = TruthIs b (values.rolls-Bool b)
   truth_shape k (Value-F.Int n) h = absurd h
   truth_shape k (Value-F.Text bytes) h = absurd h
@@ -129,7 +150,8 @@ module _ (table : List Declared) where
   truth_shape k (Value-F.Ref s) h = absurd h
   truth_shape k (Value-F.Iter c) h = absurd h
 
-  string_shape : (k : Kinds) (x : Value-F Value) → IsSomeAnd (needs_shape table (map-Value Value (ValueType → Needs) (needs table) x) ValueType-F.Text) (Meets k) → IsString (roll-Value x)
+  string_shape : (k : Kinds) (x : Value-F Value) → IsSomeAnd (needs_shape table (map-Value Value (ValueType
+      → Needs) (needs table) x) ValueType-F.Text) (Meets k) → IsString (roll-Value x)
   string_shape k (Value-F.Text bytes) h = StringIs bytes (values.rolls-Text bytes)
   string_shape k (Value-F.Bool b) h = absurd h
   string_shape k (Value-F.Int n) h = absurd h
@@ -149,8 +171,11 @@ module _ (table : List Declared) where
   if_fits k true h = refl
   if_fits k false h = absurd h
 
-  number_shape : (k : Kinds) (bits : ℕ) (x : Value-F Value) → IsSomeAnd (needs_shape table (map-Value Value (ValueType → Needs) (needs table) x) (ValueType-F.Int bits)) (Meets k) → IsNumber bits (roll-Value x)
-  number_shape k bits (Value-F.Int n) h = NumberIs n (values.rolls-Int n) (true_below n (2 ^ bits) (if_fits k (nat_lt n (2 ^ bits)) h))
+  number_shape : (k : Kinds) (bits : ℕ) (x : Value-F Value)
+      → IsSomeAnd (needs_shape table (map-Value Value (ValueType
+      → Needs) (needs table) x) (ValueType-F.Int bits)) (Meets k) → IsNumber bits (roll-Value x)
+  number_shape k bits (Value-F.Int n) h = NumberIs n (values.rolls-Int n) (true_below n (2 ^ bits) (if_fits k (nat_lt
+      n (2 ^ bits)) h))
   number_shape k bits (Value-F.Bool b) h = absurd h
   number_shape k bits (Value-F.Text bytes) h = absurd h
   number_shape k bits (Value-F.Bytes bytes) h = absurd h
@@ -165,7 +190,9 @@ module _ (table : List Declared) where
   number_shape k bits (Value-F.Ref s) h = absurd h
   number_shape k bits (Value-F.Iter c) h = absurd h
 
-  refers_shape : (k : Kinds) (to : Inner) (x : Value-F Value) → IsSomeAnd (needs_shape table (map-Value Value (ValueType → Needs) (needs table) x) (ValueType-F.Ref to)) (Meets k) → Refers k to (roll-Value x)
+  refers_shape : (k : Kinds) (to : Inner) (x : Value-F Value)
+      → IsSomeAnd (needs_shape table (map-Value Value (ValueType
+      → Needs) (needs table) x) (ValueType-F.Ref to)) (Meets k) → Refers k to (roll-Value x)
   refers_shape k to Value-F.Null h = RefersNull values.rolls-Null
   refers_shape k to (Value-F.Ref s) h = RefersTo s (values.rolls-Ref s) h.0
   refers_shape k to (Value-F.Bool b) h = absurd h
@@ -188,7 +215,8 @@ module _ (table : List Declared) where
   is_string k v h = by_shape k IsString types.Text ValueType-F.Text out_text (string_shape k) v h
 
   pub is_number : (k : Kinds) (bits : ℕ) (v : Value) → Has table k v (types.Int bits) → IsNumber bits v
-  is_number k bits v h = by_shape k (IsNumber bits) (types.Int bits) (ValueType-F.Int bits) (out_int bits) (number_shape k bits) v h
+  is_number k bits v h = by_shape k (IsNumber bits) (types.Int bits) (ValueType-F.Int bits) (out_int bits)
+      (number_shape k bits) v h
 
   pub refers : (k : Kinds) (to : Inner) (v : Value) → Has table k v (types.Ref to) → Refers k to v
   refers k to v h = by_shape k (Refers k to) (types.Ref to) (ValueType-F.Ref to) (out_ref to) (refers_shape k to) v h

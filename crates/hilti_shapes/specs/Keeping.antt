@@ -41,8 +41,8 @@ pub record Ends (parts : Parts) (kinds : Kinds) (p : Position) (below : List Fra
   pub chain : Chain parts below p
   pub state : IsState parts kinds st
 
--- what an action leaves is typed: where it goes on, the same frames wait; where it calls, the caller
--- waits above them, for one callee
+-- what an action leaves is typed: where it goes on, the same frames wait; where it calls, the
+-- caller waits above them, for one callee
 abbrev pub Keeps : Parts → Kinds → Position → List Frame → Does → Type 0
 Keeps parts kinds p below (Go items top st) = GoesOn parts kinds below top st
 Keeps parts kinds p below (Call first more caller st) =
@@ -59,8 +59,8 @@ abbrev pub HoldsAll : List Value → List Value → (ℕ → ℕ) → Type 0
 HoldsAll slots globals others =
     (serial : ℕ) → all_held serial slots + all_held serial globals ≤ others serial
 
--- The next instruction of a call in progress finds what its row asks, over each heap that stands for
--- the store and whose counts fit what frames and globals hold.
+-- The next instruction of a call in progress finds what its row asks, over each heap that stands
+-- for the store and whose counts fit what frames and globals hold.
 abbrev pub FindWhatRowsAsk : Parts → Type 0
 FindWhatRowsAsk parts =
     (p : Position) (frames : Frames) (globals : List Value) (kinds : Kinds) (store : Store)

@@ -44,8 +44,8 @@ all_need [] [] = nothing
 all_need (part ∷ parts) (t ∷ types) = both_need (part t) (all_need parts types)
 all_need _ _ = None
 
--- a number is below 2 to its width, a pick is the place of a constant, and Null is of each type that
--- names objects
+-- a number is below 2 to its width, a pick is the place of a constant, and Null is of each type
+-- that names objects
 abbrev pub needs_shape : List Declared → Value-F (ValueType → Needs)
     → ValueType-F Inner ValueType → Needs
 needs_shape table (Value-F.Bool truth) ValueType-F.Bool = nothing

@@ -126,8 +126,8 @@ pub record IsConfig (parts : Parts) (p : Position) (frames : Frames) (globals : 
   pub shared : AreShared parts globals kinds store
   pub none_made : frames.made ≡ []
 
--- how a function at a place ends: with a result of its type for its own target, or with an exception
--- of the program
+-- how a function at a place ends: with a result of its type for its own target, or with an
+-- exception of the program
 abbrev pub IsTypedEnding : Parts → Kinds → Position → Ending → Type 0
 IsTypedEnding parts kinds p (endings.Returned target value) =
     (target ≡ p.target) × IsResult parts.types kinds (result_type parts p) value

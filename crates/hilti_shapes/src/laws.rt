@@ -5,8 +5,8 @@ ghost use Rattle.hilti_shapes.specs.Keeping.{FindWhatRowsAsk, ActsKeepTypes, Ret
 ghost use Rattle.hilti_shapes.specs.Keeping.{EntriesAreTyped, FreshThreadsAreTyped};
 ghost use Rattle.hilti_shapes.specs.Places.{IsTypedProgram};
 
-/// A call in progress of a typed program is at a row, and finds values and objects as the row asks, whatever heap stands
-/// for its store and counts what its slots and the globals hold.
+/// A call in progress of a typed program is at a row, and finds values and objects as the row asks, whatever heap
+/// stands for its store and counts what its slots and the globals hold.
 pub fn typing_gives_what_rows_ask()
     ensures { (parts : Parts) → IsTypedProgram parts → FindWhatRowsAsk parts }
 {}
@@ -29,8 +29,8 @@ pub fn beginnings_are_typed()
     ensures threads { (parts : Parts) → IsTypedProgram parts → FreshThreadsAreTyped parts }
 {}
 
-/// A call that begins is typed, and isn't with a value of another type in a global, with a slot too few, behind its last
-/// instruction, or with arguments that are half made. Numbers and references have the types that they fit.
+/// A call that begins is typed, and isn't with a value of another type in a global, with a slot too few, behind its
+/// last instruction, or with arguments that are half made. Numbers and references have the types that they fit.
 pub fn examples()
     ensures typed { TypedBeginning }
     ensures untyped { UntypedBeginnings }
