@@ -20,6 +20,7 @@ use Rattle.hilti_shapes.specs.Keeping.{FreshThreadsAreTyped, EntriesAreTyped}
 use Rattle.hilti_shapes.proofs.Sources.{literal_is}
 use Rattle.hilti_shapes.proofs.Stores.{empty_typed}
 use Rattle.hilti_shapes.proofs.Entering.{entry_at}
+use Rattle.hilti_shapes.proofs.Growing.{same_kinds}
 
 module _ (table : List Declared) where
   -- a literal of a type has a value
@@ -71,5 +72,19 @@ fresh_threads_are_typed parts program number = record {
 }
 
 pub entries_are_typed : (parts : Parts) → IsTypedProgram parts → EntriesAreTyped parts
-entries_are_typed parts program f function target arguments kinds e h = entry_at parts program f function target
-    arguments kinds e h
+entries_are_typed parts program f function target arguments kinds e h = record {
+  frame_is = entry_at parts program f function target arguments kinds e h;
+  alone = λ st state. record {
+    grown = kinds;
+    grows = same_kinds kinds;
+    position = record { function = f; block = 0; at = 0; target = target };
+    stands = refl;
+    config = record {
+      top = entry_at parts program f function target arguments kinds e h;
+      below = tt;
+      chain = tt;
+      shared = state;
+      none_made = refl;
+    };
+  };
+}

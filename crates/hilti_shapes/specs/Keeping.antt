@@ -84,14 +84,20 @@ ReturnsKeepTypes parts =
     → Ends parts kinds callee (below ++ frame (heads.Function p) slots ∷ []) ending st
     → KeepsBack parts kinds p below (resume parts (frame (heads.Function p) slots) ending st)
 
--- A function with arguments of the types of its parameters is at its first instruction.
+-- a frame is typed, and with any typed thread it is a call in progress
+pub record Begins (parts : Parts) (kinds : Kinds) (top : Frame) : Type 0 where
+  pub frame_is : IsFrame parts kinds top
+  pub alone : (st : State) → IsState parts kinds st → GoesOn parts kinds [] top st
+
+-- A function that is entered with arguments of the types of its parameters, and with what its other
+-- variables hold at first, begins a call.
 abbrev pub EntriesAreTyped : Parts → Type 0
 EntriesAreTyped parts =
     (f : FnId) (function : Function) (target : Option Variable) (arguments : List Value)
     (kinds : Kinds)
     → slice_get parts.functions f.n ≡ Some function
     → Have parts.types kinds arguments (take function.params function.slots)
-    → IsFrame parts kinds (entry parts f arguments target)
+    → Begins parts kinds (entry parts f arguments target)
 
 -- A thread that ran nothing is typed.
 abbrev pub FreshThreadsAreTyped : Parts → Type 0
