@@ -23,8 +23,8 @@ pub fn returns_keep_types()
     ensures { (parts : Parts) → IsTypedProgram parts → ReturnsKeepTypes parts }
 {}
 
-/// A function that is entered with arguments of its parameters' types begins a typed call, and a thread that ran nothing
-/// is typed.
+/// A function that is entered with arguments of its parameters' types begins a typed call, and a thread that ran
+/// nothing is typed.
 pub fn beginnings_are_typed()
     ensures entries { (parts : Parts) → IsTypedProgram parts → EntriesAreTyped parts }
     ensures threads { (parts : Parts) → IsTypedProgram parts → FreshThreadsAreTyped parts }
