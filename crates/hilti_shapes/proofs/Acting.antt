@@ -34,7 +34,7 @@ use Rattle.hilti_stack.specs.declared.head.Position.{Position}
 use Rattle.hilti_stack.specs.Frames.{Frame, frame}
 use Rattle.hilti_effects.specs.State.{State}
 use Rattle.hilti_effects.specs.Operands.{value_at, values_at, slots_with, globals_with, slots_taking, globals_taking}
-use Rattle.hilti_effects.specs.Printing.{printed_line, printed_trees}
+use Rattle.hilti_effects.specs.Printing.{printed_line, shown}
 use Rattle.hilti_effects.specs.Raising.{raised, to_block}
 use Rattle.hilti_effects.specs.Acting.{next, at, with_globals, assigns, refuses, gives, answers}
 use Rattle.hilti_effects.specs.Acting.{prints, entry, fields_of, on_struct, text_of, act_on, act_if}
@@ -250,7 +250,7 @@ module _ (parts : Parts) (program : IsTypedProgram parts) (p : Position) (below 
       slots st.globals y) r.of (has_value x r.of r.first) (has_value y r.of r.second)) (more refl)
   kept (rows.IsNull t x) r more = assigned t types.Bool (values.Bool (is_null (value_at slots st.globals x))) r.goes
       (has_bool parts.types k (is_null (value_at slots st.globals x))) (more refl)
-  kept (rows.Print items) r more = printed (printed_line (printed_trees slots st.globals items)) (more refl)
+  kept (rows.Print items) r more = printed (printed_line parts.types (shown slots st.globals items)) (more refl)
   kept rows.Yield r more = passed (more refl)
   kept (rows.Call f arguments t) r more =
       let g = callee_of parts f.n (IsCall c arguments t) r in (

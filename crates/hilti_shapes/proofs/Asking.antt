@@ -14,7 +14,6 @@ use Rattle.hilti_parts.specs.declared.parts.Function.{Function}
 use Rattle.hilti_parts.specs.declared.parts.Parts.{Parts}
 use Rattle.hilti_typing.specs.Context.{Signature, Context}
 use Rattle.hilti_typing.specs.Programs.{context, signature}
-use Rattle.hilti_print.specs.Trees.{HasText}
 use Rattle.hilti_values.specs.declared.value.Value.{Value}
 use Rattle.hilti_values.specs.declared.value.Value.TheVariants as values
 use Rattle.hilti_heap.specs.Kept.{Kept}
@@ -44,7 +43,6 @@ use Rattle.hilti_shapes.proofs.Values.{IsString, StringIs, Refers, RefersNull, R
 use Rattle.hilti_shapes.proofs.Scalars.{bool_of, takes_one, takes_two}
 use Rattle.hilti_shapes.proofs.Places.{found_has, value_has, gets, target_there}
 use Rattle.hilti_shapes.proofs.Fields.{ref_held, has_field}
-use Rattle.hilti_shapes.proofs.Texts.{text_has}
 use Rattle.hilti_shapes.proofs.Entering.{row_here}
 
 pub some_and : {A : Type 0} (o : Option A) (P : A → Type 0) → IsSomeAnd o P → (x : A) × (o ≡ Some x) × P x
@@ -135,9 +133,7 @@ module _ (parts : Parts) (p : Position) (slots globals : List Value) (k : Kinds)
       → AllByRecursion (AsksPrinted slots globals) items
   texts_there [] h g = tt
   texts_there (item ∷ items) h g = (
-    has_gets (λ value. HasText item.kind (tree_of value)) item.value item.kind h.0
-        (text_has parts.types k item.kind (value_at slots globals item.value) g.0 (has_value item.value item.kind
-        h.0)),
+    any_gets item.value item.kind h.0,
     texts_there items h.1 g.1,
   )
 

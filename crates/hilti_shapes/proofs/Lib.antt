@@ -14,7 +14,6 @@ pub mod Raising
 pub mod Scalars
 pub mod Sources
 pub mod Stores
-pub mod Texts
 pub mod Threads
 pub mod TypedLines
 pub mod Values
