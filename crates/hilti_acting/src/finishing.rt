@@ -1,0 +1,74 @@
+//! What was computed goes to its target, and what was raised to its handler.
+ghost use Rattle.std.specs.Prelude.{◌≡◌, ◌+◌, ◌<◌, ◌^◌, [], ℕ, Bool, Some, None, IfOk, IfSome, length};
+ghost use Rattle.hilti_heap.specs.Held.{held};
+ghost use Rattle.hilti_heap.specs.Kept.{AreKept};
+ghost use Rattle.hilti_heap.specs.Stands.{Meets};
+ghost use Rattle.hilti_heap.specs.Stores.{Store, Answer};
+ghost use Rattle.hilti_typing.specs.Exceptions as exceptions;
+ghost use Rattle.hilti_effects.specs.Raising.{raised, as_action};
+ghost use Rattle.hilti_effects.specs.Acting.{answers};
+ghost use Rattle.hilti_effects.specs.Asks.{IsThere};
+ghost use Rattle.hilti_scalar_ops.specs.declared.computing.Made as scalar;
+ghost use Rattle.hilti_scalar_ops.specs.declared.computing.Made.TheVariants as scalars;
+ghost use Rattle.hilti_acting.specs.Owned.{FitsWith};
+ghost use Rattle.hilti_acting.specs.Acts.{Acts, Stands, MayRaise, Fitted, of_state, thread, answer_of};
+ghost use Rattle.hilti_acting.specs.declared.memory.Memory as spec;
+
+use crate::did::Did;
+use crate::memory::Memory;
+use crate::places::{put, receive};
+use hilti_base::{NoMemory, Raise};
+use hilti_effects::Ending;
+use hilti_heap::{Heap, OpFault};
+use hilti_parts::Variable;
+use hilti_program::Program;
+use hilti_raise::handler;
+use hilti_scalar_ops::Made;
+use hilti_stack::{Position, Stack};
+use hilti_values::{SharedBytes, Value};
+
+/// The number of a built-in exception.
+fn raise_number(raise: Raise) -> u32
+    ensures { result ≡ exceptions.raise_number raise }
+{
+    match raise {
+        Raise::ValueError => 1,
+        Raise::IndexError => 2,
+        Raise::DivisionByZero => 3,
+        Raise::NullReference => 4,
+        Raise::UnsetField => 5,
+        Raise::StaleIterator => 6,
+    }
+}
+
+/// An exception is raised in the top. The first handler of its block that catches it takes the text, and the top goes
+/// on at the handler's block; without one the top ends.
+pub fn raise(
+    program: &Program,
+    p: &mut Position,
+    stack: &mut Stack,
+    memory: &mut Memory,
+    exception: u32,
+    text: SharedBytes,
+) -> Did
+    requires there { exception < length program.now.exceptions }
+    requires may { MayRaise program.now p.old stack.old.slots }
+    requires stands { Stands p.old stack.old memory.old }
+    ensures { Acts
+        (of_state (λ st. as_action (raised program.now p.old stack.old.slots st exception text))
+        memory.old.globals.items)
+        p.old stack.old memory.old result p.new stack.new memory.new }
+{
+    match handler(program, p.function, p.block, exception) {
+        Some(handler) => {
+            let slot = Variable::Slot { n: handler.slot };
+            put(stack, memory, slot, Value::Text(text));
+            p.block = handler.block;
+            p.at = 0;
+            Did::Went
+        }
+        None => Did::Left {
+            ending: Ending::Raised { exception, text },
+        },
+    }
+}
