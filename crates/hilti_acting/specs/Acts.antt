@@ -104,6 +104,11 @@ abbrev pub answer_of : Made → Store → Answer
 answer_of (made.Gives value) st = Done (Some value) st
 answer_of (made.Raises r) st = Raised r
 
+-- where a value was computed
+abbrev pub IfGives : Made → (Value → Type 0) → Type 0
+IfGives (made.Gives value) so = so value
+IfGives (made.Raises r) so = Unit {0}
+
 -- where an answer's value is on its way, the counts are what is held with it
 abbrev pub Fitted : Result (Option Value) OpFault → Kept → Frames → List Value → Type 0
 Fitted (Ok value) h f globals = FitsWith h f globals value

@@ -8,10 +8,7 @@ ghost use Rattle.hilti_typing.specs.Exceptions as exceptions;
 ghost use Rattle.hilti_effects.specs.Raising.{raised, as_action};
 ghost use Rattle.hilti_effects.specs.Acting.{answers};
 ghost use Rattle.hilti_effects.specs.Asks.{IsThere};
-ghost use Rattle.hilti_scalar_ops.specs.declared.computing.Made as scalar;
-ghost use Rattle.hilti_scalar_ops.specs.declared.computing.Made.TheVariants as scalars;
-ghost use Rattle.hilti_acting.specs.Owned.{FitsWith};
-ghost use Rattle.hilti_acting.specs.Acts.{Acts, Stands, MayRaise, Fitted, of_state, thread, answer_of};
+ghost use Rattle.hilti_acting.specs.Acts.{Acts, Stands, MayRaise, Fitted, IfGives, of_state, answer_of};
 ghost use Rattle.hilti_acting.specs.declared.memory.Memory as spec;
 
 use crate::did::Did;
@@ -59,6 +56,7 @@ pub fn raise(
         memory.old.globals.items)
         p.old stack.old memory.old result p.new stack.new memory.new }
 {
+    let _parts = program.parts();
     match handler(program, p.function, p.block, exception) {
         Some(handler) => {
             let slot = Variable::Slot { n: handler.slot };
@@ -70,5 +68,55 @@ pub fn raise(
         None => Did::Left {
             ending: Ending::Raised { exception, text },
         },
+    }
+}
+
+/// What was computed is held, and is an instruction's answer.
+pub fn hold_made(heap: &mut Heap, made: Made) -> Result<Option<Value>, OpFault>
+    requires { IfGives made (λ value. AreKept heap.old (λ s. held s value)) }
+    ensures { Meets (answer_of made) result heap.old heap.new }
+{
+    match made {
+        Made::Gives { value } => {
+            heap.hold_value(&value)?;
+            Ok(Some(value))
+        }
+        Made::Raises { raise } => Err(OpFault::Raise(raise)),
+    }
+}
+
+/// What an instruction answered: its value goes to the target, or is let go where there is none, and the top goes on; a
+/// raise goes to its handler.
+pub fn complete(
+    program: &Program,
+    p: &mut Position,
+    stack: &mut Stack,
+    memory: &mut Memory,
+    target: Option<Variable>,
+    answer: Result<Option<Value>, OpFault>,
+) -> Result<Did, NoMemory>
+    requires there { IfSome target (IsThere stack.old.slots memory.old.globals.items) }
+    requires may { MayRaise program.now p.old stack.old.slots }
+    requires room { p.old.at + 1 < 2 ^ 32 }
+    requires none_made { stack.old.made ≡ [] }
+    requires fits { Fitted answer memory.old.heap stack.old memory.old.globals.items }
+    ensures { (does : Store → Answer) (before : spec.Memory) →
+        memory.old.globals.items ≡ before.globals.items →
+        Meets does answer before.heap memory.old.heap →
+        IfOk result (λ did. Acts
+        (of_state (λ st. answers program.now p.old stack.old.slots st target (does st.store))
+        before.globals.items) p.old stack.old before did p.new stack.new memory.new) }
+{
+    match answer {
+        Ok(value) => {
+            receive(stack, memory, target, value);
+            p.at += 1;
+            Ok(Did::Went)
+        }
+        Err(OpFault::Raise(error)) => {
+            let exception = raise_number(error);
+            Ok(raise(program, p, stack, memory, exception, SharedBytes::empty()))
+        }
+        Err(OpFault::NoMemory) => Err(NoMemory),
     }
 }

@@ -3,6 +3,7 @@
 #![tactic(auto)]
 
 mod did;
+mod finishing;
 mod memory;
 mod places;
 
