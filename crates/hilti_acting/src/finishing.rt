@@ -1,12 +1,13 @@
 //! What was computed goes to its target, and what was raised to its handler.
-ghost use Rattle.std.specs.Prelude.{◌≡◌, ◌+◌, ◌<◌, ◌^◌, [], ℕ, Bool, Some, None, IfOk, IfSome, length};
+ghost use Rattle.std.specs.Prelude.{◌≡◌, ◌+◌, ◌<◌, ◌≤◌, ◌^◌, [], ℕ, Bool, Some, None, IfOk, IfSome, length};
 ghost use Rattle.hilti_heap.specs.Held.{held};
 ghost use Rattle.hilti_heap.specs.Kept.{AreKept};
 ghost use Rattle.hilti_heap.specs.Stands.{Meets};
 ghost use Rattle.hilti_heap.specs.Stores.{Store, Answer};
 ghost use Rattle.hilti_typing.specs.Exceptions as exceptions;
 ghost use Rattle.hilti_effects.specs.Raising.{raised, as_action};
-ghost use Rattle.hilti_effects.specs.Acting.{answers};
+ghost use Rattle.hilti_effects.specs.Acting.{answers, gives};
+ghost use Rattle.hilti_acting.specs.Owned.{owned};
 ghost use Rattle.hilti_effects.specs.Asks.{IsThere};
 ghost use Rattle.hilti_acting.specs.Acts.{Acts, Stands, MayRaise, Fitted, IfGives, of_state, answer_of};
 ghost use Rattle.hilti_acting.specs.declared.memory.Memory as spec;
@@ -24,10 +25,12 @@ use hilti_scalar_ops::Made;
 use hilti_stack::{Position, Stack};
 use hilti_values::{SharedBytes, Value};
 
-/// The number of a built-in exception.
-fn raise_number(raise: Raise) -> u32
-    ensures { result ≡ exceptions.raise_number raise }
+/// The number of a built-in exception, which every program has.
+fn raise_number(program: &Program, raise: Raise) -> u32
+    ensures is { result ≡ exceptions.raise_number raise }
+    ensures there { result < length program.now.exceptions }
 {
+    let _parts = program.parts();
     match raise {
         Raise::ValueError => 1,
         Raise::IndexError => 2,
@@ -114,9 +117,32 @@ pub fn complete(
             Ok(Did::Went)
         }
         Err(OpFault::Raise(error)) => {
-            let exception = raise_number(error);
+            let exception = raise_number(program, error);
             Ok(raise(program, p, stack, memory, exception, SharedBytes::empty()))
         }
         Err(OpFault::NoMemory) => Err(NoMemory),
     }
+}
+
+/// What was computed goes to its target, or what it raised to its handler.
+pub fn give(
+    program: &Program,
+    p: &mut Position,
+    stack: &mut Stack,
+    memory: &mut Memory,
+    target: Variable,
+    made: Made,
+) -> Result<Did, NoMemory>
+    requires there { IsThere stack.old.slots memory.old.globals.items target }
+    requires owned { IfGives made (λ value. (s : ℕ) →
+        held s value ≤ owned stack.old memory.old.globals.items s) }
+    requires may { MayRaise program.now p.old stack.old.slots }
+    requires stands { Stands p.old stack.old memory.old }
+    ensures { IfOk result (λ did. Acts
+        (of_state (λ st. gives program.now p.old stack.old.slots st target made)
+        memory.old.globals.items) p.old stack.old memory.old did p.new stack.new memory.new) }
+{
+    let answer = hold_made(&mut memory.heap, made);
+    let did = complete(program, p, stack, memory, Some(target), answer)?;
+    Ok(did)
 }
