@@ -1,12 +1,12 @@
 -- What an instruction's answer comes to.
 use Rattle.std.proofs.Common.{◌≡◌, ℕ, ◌+◌, ◌≤◌, List, [], refl, sym, ap, subst, ◌∙◌}
-use Rattle.std.proofs.Common.{Bool, Option, Some, None, arith}
+use Rattle.std.proofs.Common.{Bool, true, false, cond, Option, Some, None, arith}
 use Rattle.std.specs.Prelude.{Result, Ok, Err}
 use Rattle.hilti_calls.specs.Calls.{Action.Go}
 use Rattle.hilti_calls.specs.Parts.{Mark}
 use Rattle.hilti_core.specs.declared.pieces.Item.{Item}
 use Rattle.hilti_heap.specs.Held.{part, held}
-use Rattle.hilti_heap.specs.Kept.{Kept, AreKept}
+use Rattle.hilti_heap.specs.Kept.{Kept, AreKept, Covers}
 use Rattle.hilti_heap.specs.Stands.{Goes, Meets, Fits}
 use Rattle.hilti_heap.specs.Stores.{Store, Answer}
 use Rattle.hilti_heap.specs.declared.fault.OpFault.{OpFault}
@@ -14,20 +14,22 @@ use Rattle.hilti_heap.specs.declared.fault.OpFault.TheVariants as faults
 use Rattle.hilti_heap.proofs.Standing.{covers_kept}
 use Rattle.hilti_parts.specs.declared.parts.Parts.{Parts}
 use Rattle.hilti_parts.specs.declared.parts.Variable.{Variable}
+use Rattle.hilti_rows.specs.declared.row.Source.{Source}
 use Rattle.hilti_scalar_ops.specs.declared.computing.Made.{Made}
 use Rattle.hilti_scalar_ops.specs.declared.computing.Made.TheVariants as made
 use Rattle.hilti_stack.specs.declared.head.Position.{Position}
 use Rattle.hilti_stack.specs.Frames.{Frames, with_slots}
 use Rattle.hilti_values.specs.declared.value.Value.{Value}
 use Rattle.hilti_effects.specs.Acting.{at, next, answers, gives}
-use Rattle.hilti_effects.specs.Operands.{slots_taking, globals_taking}
+use Rattle.hilti_effects.specs.Operands.{value_at, slots_taking, globals_taking}
 use Rattle.hilti_effects.specs.State.{State, Close}
 use Rattle.hilti_acting.specs.Acts.{Going, Acts, WentOn, marks, of_state, thread, answer_of, Fitted, IfGives}
-use Rattle.hilti_acting.specs.Owned.{owned, FitsWith, Fewer}
+use Rattle.hilti_acting.specs.Owned.{owned, FitsWith, Fewer, IsFree}
 use Rattle.hilti_acting.specs.declared.did.Did.{Did}
 use Rattle.hilti_acting.specs.declared.did.Did.TheVariants as did
 use Rattle.hilti_acting.specs.declared.memory.Memory.{Memory}
 use Rattle.hilti_acting.proofs.Counts.{stands_fewer, fits_same, fits_covers}
+use Rattle.hilti_acting.proofs.Holding.{operand_owned}
 
 -- a value went to its target, if there are both
 pub answer_taken : (parts : Parts) (p : Position) (s : Frames) (m before : Memory)
@@ -61,6 +63,23 @@ answer_taken parts p s m before target value does s' m' same goes stack globals 
       none_made = ap (λ (f : Frames). f.made) stack ∙ made;
     }
 
+-- an operand that was read
+pub reads : (slots gs gs' : List Value) (s : Source) (x : Value) → gs' ≡ gs
+    → value_at slots gs' s ≡ x → value_at slots gs s ≡ x
+reads slots gs gs' s x e is = subst (λ gs. value_at slots gs s ≡ x) e is
+
+-- what equals an operand is held by the frames and the globals
+pub shared_owned : (f : Frames) (gs : List Value) (s : Source) (x y : Value) → IsFree s
+    → value_at f.slots gs s ≡ x → y ≡ x → (q : ℕ) → held q y ≤ owned f gs q
+shared_owned f gs s x y free is e q =
+    omega (arith, operand_owned q f gs s free, ap (held q) (is ∙ sym e))
+
+pub chosen_owned : (f : Frames) (gs : List Value) (b : Bool) (s t : Source) (x y : Value)
+    → IsFree s → IsFree t → cond b (value_at f.slots gs s) (value_at f.slots gs t) ≡ x → y ≡ x
+    → (q : ℕ) → held q y ≤ owned f gs q
+chosen_owned f gs true s t x y one other is e = shared_owned f gs s x y one is e
+chosen_owned f gs false s t x y one other is e = shared_owned f gs t x y other is e
+
 -- what an instruction answered is on its way
 pub meets_fitted : (does : Store → Answer) (answer : Result (Option Value) OpFault) (a b : Kept)
     (f : Frames) (gs : List Value) → Meets does answer a b → FitsWith a f gs None
@@ -79,6 +98,17 @@ pub owned_kept : (h : Kept) (f : Frames) (gs : List Value) (m : ℕ → ℕ) →
 owned_kept h f gs m fits below =
     covers_kept h (λ s. owned f gs s) m
     (fits_covers h (λ s. owned f gs s + 0) (λ s. owned f gs s) fits.is (λ s. omega arith)) below
+
+pub operand_kept : (h : Kept) (f : Frames) (gs : List Value) (s : Source) (x : Value) → IsFree s
+    → FitsWith h f gs None → value_at f.slots gs s ≡ x → AreKept h (λ q. held q x)
+operand_kept h f gs s x free fits is =
+    owned_kept h f gs (λ q. held q x) fits (shared_owned f gs s x x free is refl)
+
+pub operand_covers : (h : Kept) (f : Frames) (gs : List Value) (s : Source) (x : Value) → IsFree s
+    → FitsWith h f gs None → value_at f.slots gs s ≡ x → Covers h (λ q. held q x)
+operand_covers h f gs s x free fits is =
+    fits_covers h (λ q. owned f gs q + 0) (λ q. held q x) fits.is
+    (λ q. omega (arith, shared_owned f gs s x x free is refl q))
 
 pub made_kept : (h : Kept) (f : Frames) (gs : List Value) (made : Made) → FitsWith h f gs None
     → IfGives made (λ value. (q : ℕ) → held q value ≤ owned f gs q)

@@ -1,7 +1,7 @@
 -- What computed values hold, and who holds the values of operands.
 use Rattle.std.proofs.Common.{◌≡◌, ℕ, ◌+◌, ◌≤◌, Bool, List, refl, sym, ap, ◌∙◌, Option, Some, None}
 use Rattle.std.proofs.Common.{arith, sum_by}
-use Rattle.std.specs.Prelude.{slice_get, Result, Ok, Err}
+use Rattle.std.specs.Prelude.{slice_get, Result, Ok, Err, not, ◌&&◌, ◌||◌, ◌%◌, ◌^◌}
 use Rattle.std.proofs.lemmas.Option.{slice_get_within, get_or_from_slice_get}
 use Rattle.std.proofs.lemmas.List.Sums.{sum-map, get_or-le-sum_by}
 use Rattle.hilti_base.specs.declared.refusal.Raise.{Raise}
@@ -16,7 +16,8 @@ use Rattle.hilti_rows.specs.declared.row.Source.{Source}
 use Rattle.hilti_rows.specs.declared.row.Source.TheVariants as sources
 use Rattle.hilti_rows.specs.declared.row.Unary.{Unary}
 use Rattle.hilti_rows.specs.declared.row.Unary.TheVariants as unaries
-use Rattle.hilti_scalar_ops.specs.Computing.{number, unary_of, binary_of}
+use Rattle.hilti_scalar_ops.specs.Computing.{number, unary_of, binary_of, truth_of, whole_of, holds}
+use Rattle.hilti_int.specs.Integers.{bits_of, outcome_of, exactly}
 use Rattle.hilti_scalar_ops.specs.declared.computing.Made.{Made}
 use Rattle.hilti_stack.specs.Frames.{Frames}
 use Rattle.hilti_stack.proofs.Counting.{sets_count}
@@ -69,12 +70,15 @@ module _ (m : ℕ → ℕ) where
 
   pub unary_owned : (op : Unary) (a : Value) → IsOwned a → IfGives (unary_of op a) IsOwned
   unary_owned unaries.Assign a is = is
-  unary_owned unaries.Not a is = λ q. omega (arith, held_bool q _)
-  unary_owned (unaries.IntAs width) a is = λ q. omega (arith, held_int q _)
-  unary_owned (unaries.IntAsExact width) a is = number_owned _
+  unary_owned unaries.Not a is = λ q. omega (arith, held_bool q (not (truth_of a)))
+  unary_owned (unaries.IntAs width) a is =
+      λ q. omega (arith, held_int q (whole_of a % 2 ^ bits_of width))
+  unary_owned (unaries.IntAsExact width) a is = number_owned (exactly (bits_of width) (whole_of a))
 
   pub binary_owned : (op : Binary) (a b : Value) → IfGives (binary_of op a b) IsOwned
-  binary_owned binaries.And a b = λ q. omega (arith, held_bool q _)
-  binary_owned binaries.Or a b = λ q. omega (arith, held_bool q _)
-  binary_owned (binaries.Int op width) a b = number_owned _
-  binary_owned (binaries.Compare op width) a b = λ q. omega (arith, held_bool q _)
+  binary_owned binaries.And a b = λ q. omega (arith, held_bool q (truth_of a && truth_of b))
+  binary_owned binaries.Or a b = λ q. omega (arith, held_bool q (truth_of a || truth_of b))
+  binary_owned (binaries.Int op width) a b =
+      number_owned (outcome_of op (bits_of width) (whole_of a) (whole_of b))
+  binary_owned (binaries.Compare op width) a b =
+      λ q. omega (arith, held_bool q (holds op (bits_of width) (whole_of a) (whole_of b)))

@@ -2,10 +2,12 @@
 //! nothing holds.
 #![tactic(auto)]
 
+mod control;
 mod did;
 mod finishing;
 mod memory;
 mod places;
+mod scalars;
 
 pub use did::Did;
 pub use memory::Memory;
