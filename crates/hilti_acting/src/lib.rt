@@ -8,6 +8,7 @@ mod finishing;
 mod memory;
 mod places;
 mod scalars;
+mod structs;
 
 pub use did::Did;
 pub use memory::Memory;
