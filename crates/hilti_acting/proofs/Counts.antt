@@ -13,8 +13,9 @@ use Rattle.hilti_heap.specs.Stores.{Store}
 use Rattle.hilti_heap.proofs.Standing.{covers_kept}
 use Rattle.hilti_parts.specs.declared.parts.Variable.{Variable}
 use Rattle.hilti_parts.specs.declared.parts.Variable.TheVariants as variables
-use Rattle.hilti_stack.specs.Frames.{Frame, Frames, frame, with_slots, with_made, entered}
-use Rattle.hilti_stack.proofs.Counting.{sets_count, calls_count}
+use Rattle.hilti_stack.specs.declared.head.Head.{Head}
+use Rattle.hilti_stack.specs.Frames.{Frame, Frames, with_slots, with_made, entered, Leaves}
+use Rattle.hilti_stack.proofs.Counting.{sets_count, calls_count, leaves_count}
 use Rattle.hilti_effects.specs.Operands.{slots_with, globals_with}
 use Rattle.hilti_acting.specs.Owned.{owned, FitsWith, Fewer, variable_at}
 
@@ -117,4 +118,63 @@ pub gone_fits : (f : Frames) (gs : List Value) (v : Value) (a b : Kept) → Fits
 gone_fits f gs v a b fits r = record {
   is = fits_released a b (λ s. owned f gs s + held s v) (λ s. held s v) (λ s. owned f gs s + 0)
       fits.is r (λ s. omega arith);
+}
+
+-- an argument is held, and made
+pub make_fits : (f g : Frames) (gs : List Value) (v w : Value) (a b : Kept)
+    → g ≡ with_made f (f.made ++ w ∷ []) → w ≡ v → FitsWith a f gs None
+    → Holds a b (λ s. held s v) → FitsWith b g gs None
+make_fits f g gs v w a b e i fits h = subst (λ g. FitsWith b g gs None) (sym e) (record {
+  is = fits_held a b (λ s. owned f gs s + 0) (λ s. held s v)
+      (λ s. owned (with_made f (f.made ++ w ∷ [])) gs s + 0) fits.is h
+      (λ s.
+      let m = (calls_count (held s) f).make w in let k = ap (held s) i in omega arith);
+})
+
+-- what was made is held by the callee
+pub enter_fits : (f g : Frames) (gs : List Value) (head : Head) (a : Kept)
+    → g ≡ entered f head → FitsWith a f gs None → FitsWith a g gs None
+enter_fits f g gs head a e fits = subst (λ g. FitsWith a g gs None) (sym e) (record {
+  is = fits_same a (λ s. owned f gs s + 0) (λ s. owned (entered f head) gs s + 0)
+      (λ s. let m = (calls_count (held s) f).enter head in omega arith) fits.is;
+})
+
+-- the slots of the top are let go
+pub slots_covered : (f : Frames) (gs : List Value) (v : Option Value) (a : Kept)
+    → FitsWith a f gs v → Covers a (λ s. all_held s f.slots)
+slots_covered f gs v a fits =
+    fits_covers a (λ s. owned f gs s + part (held s) v) (λ s. all_held s f.slots) fits.is
+    (λ s. let m = sum-map (held s) f.slots in omega arith)
+
+pub leave_fits : (f g : Frames) (gs : List Value) (head : Head) (v : Option Value) (a b : Kept)
+    → Leaves f head g → f.made ≡ [] → FitsWith a f gs v
+    → Releases a b (λ s. all_held s f.slots) → FitsWith b g gs v
+leave_fits f g gs head v a b leaves made fits r = record {
+  is = fits_released a b (λ s. owned f gs s + part (held s) v) (λ s. all_held s f.slots)
+      (λ s. owned g gs s + part (held s) v) fits.is r
+      (λ s.
+      let l = leaves_count (held s) f g head leaves in
+      let m = sum-map (held s) f.slots in
+      let n = ap (sum_by (held s)) made in
+      omega arith);
+}
+
+-- no frame is left
+pub none_left : (f : Frames) (gs : List Value) (v : Option Value) (a b : Kept) → f.below ≡ []
+    → f.made ≡ [] → FitsWith a f gs v → Releases a b (λ s. all_held s f.slots)
+    → Fits b (λ s. all_held s gs + part (held s) v)
+none_left f gs v a b e made fits r =
+    fits_released a b (λ s. owned f gs s + part (held s) v) (λ s. all_held s f.slots)
+    (λ s. all_held s gs + part (held s) v) fits.is r
+    (λ s.
+    let b = ap (sum_by (λ (caller : Frame). sum_by (held s) caller.slots)) e in
+    let m = sum-map (held s) f.slots in
+    let n = ap (sum_by (held s)) made in
+    omega arith)
+
+-- what is still to be let go is covered
+pub covers_rest : (a b : Kept) (m k l : ℕ → ℕ) → Covers a l → Releases a b m
+    → ((s : ℕ) → m s + k s ≤ l s) → Covers b k
+covers_rest a b m k l c x e = record {
+  each = λ s. let p = c.each s in let q = x.moves.share s in let z = e s in omega arith;
 }

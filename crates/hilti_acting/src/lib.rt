@@ -2,11 +2,13 @@
 //! nothing holds.
 #![tactic(auto)]
 
+mod arguments;
 mod control;
 mod did;
 mod finishing;
 mod memory;
 mod places;
+mod returning;
 mod scalars;
 mod structs;
 
