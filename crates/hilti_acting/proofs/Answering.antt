@@ -7,7 +7,7 @@ use Rattle.hilti_calls.specs.Parts.{Mark}
 use Rattle.hilti_core.specs.declared.pieces.Item.{Item}
 use Rattle.hilti_heap.specs.Held.{part, held}
 use Rattle.hilti_heap.specs.Kept.{Kept, AreKept, Covers}
-use Rattle.hilti_heap.specs.Stands.{Goes, Meets, Fits}
+use Rattle.hilti_heap.specs.Stands.{Goes, Meets}
 use Rattle.hilti_heap.specs.Stores.{Store, Answer}
 use Rattle.hilti_heap.specs.declared.fault.OpFault.{OpFault}
 use Rattle.hilti_heap.specs.declared.fault.OpFault.TheVariants as faults

@@ -3,14 +3,12 @@ use Rattle.std.proofs.Common.{◌≡◌, ℕ, ◌+◌, ◌≤◌, List, [], ◌�
 use Rattle.std.proofs.Common.{Option, Some, None, arith, sum_by}
 use Rattle.std.specs.Prelude.{slice_get, slice_set}
 use Rattle.std.proofs.lemmas.Option.{slice_get_within, get_or_from_slice_get}
-use Rattle.std.proofs.lemmas.List.Sums.{sum-map, sum_by-set, get_or-le-sum_by}
+use Rattle.std.proofs.lemmas.List.Sums.{sum-map, sum_by-set}
 use Rattle.hilti_values.specs.declared.value.Value.{Value}
-use Rattle.hilti_values.specs.declared.value.Value.TheVariants as values
 use Rattle.hilti_heap.specs.Held.{part, held, all_held}
-use Rattle.hilti_heap.specs.Kept.{Kept, Covers, AreKept, Holds, Releases}
+use Rattle.hilti_heap.specs.Kept.{Kept, Covers, Holds, Releases}
 use Rattle.hilti_heap.specs.Stands.{StandsFor, Fits}
 use Rattle.hilti_heap.specs.Stores.{Store}
-use Rattle.hilti_heap.proofs.Standing.{covers_kept}
 use Rattle.hilti_parts.specs.declared.parts.Variable.{Variable}
 use Rattle.hilti_parts.specs.declared.parts.Variable.TheVariants as variables
 use Rattle.hilti_stack.specs.declared.head.Head.{Head}

@@ -1,6 +1,6 @@
 -- Frames that go on or end with nothing changed.
-use Rattle.std.proofs.Common.{◌≡◌, [], refl}
-use Rattle.std.specs.Prelude.{List, None}
+use Rattle.std.proofs.Common.{◌≡◌, refl}
+use Rattle.std.specs.Prelude.{List}
 use Rattle.hilti_calls.specs.Calls.{Action.Go, Action.Leave}
 use Rattle.hilti_calls.specs.Parts.{Mark}
 use Rattle.hilti_core.specs.declared.pieces.Item.{Item}

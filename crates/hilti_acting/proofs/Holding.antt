@@ -1,5 +1,5 @@
 -- What computed values hold, and who holds the values of operands.
-use Rattle.std.proofs.Common.{◌≡◌, ℕ, ◌+◌, ◌≤◌, Bool, List, refl, sym, ap, ◌∙◌, Option, Some, None}
+use Rattle.std.proofs.Common.{◌≡◌, ℕ, ◌≤◌, Bool, List, refl, sym, ap, ◌∙◌, Option, Some, None}
 use Rattle.std.proofs.Common.{arith, sum_by}
 use Rattle.std.specs.Prelude.{slice_get, Result, Ok, Err, not, ◌&&◌, ◌||◌, ◌%◌, ◌^◌}
 use Rattle.std.proofs.lemmas.Option.{slice_get_within, get_or_from_slice_get}
@@ -9,7 +9,7 @@ use Rattle.hilti_values.specs.declared.value.Value.{Value}
 use Rattle.hilti_values.specs.declared.value.Value.TheVariants as values
 use Rattle.hilti_values.specs.declared.value.Value.TheOpen.{Value-F}
 use Rattle.hilti_values.specs.declared.value.Value.TheFolds.{fold-roll-Value}
-use Rattle.hilti_heap.specs.Held.{held, held_step, all_held}
+use Rattle.hilti_heap.specs.Held.{held, held_step}
 use Rattle.hilti_rows.specs.declared.row.Binary.{Binary}
 use Rattle.hilti_rows.specs.declared.row.Binary.TheVariants as binaries
 use Rattle.hilti_rows.specs.declared.row.Source.{Source}
@@ -18,9 +18,7 @@ use Rattle.hilti_rows.specs.declared.row.Unary.{Unary}
 use Rattle.hilti_rows.specs.declared.row.Unary.TheVariants as unaries
 use Rattle.hilti_scalar_ops.specs.Computing.{number, unary_of, binary_of, truth_of, whole_of, holds}
 use Rattle.hilti_int.specs.Integers.{bits_of, outcome_of, exactly}
-use Rattle.hilti_scalar_ops.specs.declared.computing.Made.{Made}
 use Rattle.hilti_stack.specs.Frames.{Frames}
-use Rattle.hilti_stack.proofs.Counting.{sets_count}
 use Rattle.hilti_effects.specs.Operands.{value_or_null, value_at}
 use Rattle.hilti_acting.specs.Acts.{IfGives}
 use Rattle.hilti_acting.specs.Owned.{owned, IsFree}

@@ -10,10 +10,10 @@ use Rattle.std.proofs.lemmas.List.Elements.{All-get_or}
 use Rattle.hilti_parts.specs.declared.parts.Exception.{Exception}
 use Rattle.hilti_parts.specs.declared.parts.Block.{Block}
 use Rattle.hilti_parts.specs.declared.parts.Handler.{Handler}
-use Rattle.hilti_typing.specs.Exceptions.{above, parent_of, IsBelow, ExceptionTree}
+use Rattle.hilti_typing.specs.Exceptions.{parent_of, IsBelow, ExceptionTree}
 use Rattle.hilti_program.proofs.Chains.{here, stops, goes_on}
-use Rattle.hilti_raise.specs.Handlers.{Catches, NoneCatches, IsCatching}
-use Rattle.hilti_calls.specs.Calls.{Action.Go, Action.Leave}
+use Rattle.hilti_raise.specs.Handlers.{Catches, IsCatching}
+use Rattle.hilti_calls.specs.Calls.{Action.Go}
 use Rattle.hilti_parts.specs.declared.parts.Parts.{Parts}
 use Rattle.hilti_raise.specs.Handlers.{block_at}
 use Rattle.hilti_stack.specs.declared.head.Position.{Position}
@@ -75,8 +75,10 @@ module _ (exceptions : List Exception) (tree : ExceptionTree exceptions) where
       (eqb_tells e other)
   tells (suc steps) e other le = ⊎_elim
       (λ (x : (nat_eq e other ≡ true) × (e ≡ other)).
-      inl (ap (λ b. b || is_below_by exceptions steps (parent_of exceptions e) other) x.0,
-      here exceptions e other x.1))
+      inl (
+        ap (λ b. b || is_below_by exceptions steps (parent_of exceptions e) other) x.0,
+        here exceptions e other x.1,
+      ))
       (λ (x : (nat_eq e other ≡ false) × (e ≢ other)).
       up steps e other x.0 x.1 le (λ q below. tells steps q other below)
       (parent_of exceptions e) refl)
@@ -124,7 +126,7 @@ module _ (exceptions : List Exception) (tree : ExceptionTree exceptions) where
 
     found_is : (hs : List Handler) (found : Option Handler) → IsCatching exceptions e hs found
         → find (catches exceptions e) hs ≡ found
-    found_is hs None none = none_found hs (λ k g s. 
+    found_is hs None none = none_found hs (λ k g s.
         subst (λ h. Catches exceptions e h → ⊥) (get_or_from_slice_get hs k g g s)
         (All-get_or (λ h. Catches exceptions e h → ⊥) hs k g (slice_get_within hs k g s) none))
     found_is hs (Some h) first =
@@ -141,7 +143,7 @@ module _ (exceptions : List Exception) (tree : ExceptionTree exceptions) where
 module _ (parts : Parts) (tree : ExceptionTree parts.exceptions) (p : Position) (s : Frames)
     (m : Memory) (e : ℕ) (text : List ℕ) (found : Option Handler)
     (is : IsSomeAnd (block_at parts p.function.n p.block)
-        (λ (b : Block). IsCatching parts.exceptions e b.handlers found)) where
+    (λ (b : Block). IsCatching parts.exceptions e b.handlers found)) where
   raised_is : (st : State) → raised parts p s.slots st e text ≡ to_handler p s.slots st e text found
   unfolding raised
   raised_is st = ap (to_handler p s.slots st e text)

@@ -1,5 +1,5 @@
 -- A caller that takes a result.
-use Rattle.std.proofs.Common.{◌≡◌, [], ◌∷◌, ◌++◌, sym, ap, subst, ◌∙◌, Option, None}
+use Rattle.std.proofs.Common.{◌≡◌, [], ◌∷◌, ◌++◌, sym, ap, ◌∙◌, Option, None}
 use Rattle.hilti_calls.specs.Calls.{Back.On}
 use Rattle.hilti_effects.specs.Acting.{at, resume}
 use Rattle.hilti_effects.specs.Operands.{slots_taking, globals_taking}

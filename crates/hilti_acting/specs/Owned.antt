@@ -1,5 +1,5 @@
 -- What frames and globals hold, and heaps whose counts are that.
-use Rattle.std.specs.Prelude.{◌≡◌, ℕ, ◌+◌, List, Option, Some, None, slice_get}
+use Rattle.std.specs.Prelude.{◌≡◌, ℕ, ◌+◌, List, Option, Some, slice_get}
 use Rattle.hilti_values.specs.declared.value.Value.{Value}
 use Rattle.hilti_heap.specs.Held.{part, held, all_held}
 use Rattle.hilti_heap.specs.Cells.{object_at}
@@ -19,8 +19,8 @@ owned f globals s = stacks.held (held s) f + all_held s globals
 
 -- the counts are what these hold, and a value besides, which is on its way
 pub record FitsWith (h : Kept) (f : Frames) (globals : List Value) (way : Option Value) : Type 0
-    where
-  pub is : Fits h (λ s. owned f globals s + part (held s) way)
+  where
+    pub is : Fits h (λ s. owned f globals s + part (held s) way)
 
 -- the same objects, or fewer
 pub record Fewer (a b : Kept) : Type 0 where

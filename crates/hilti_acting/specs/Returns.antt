@@ -1,5 +1,5 @@
 -- What follows where the top ended.
-use Rattle.std.specs.Prelude.{◌≡◌, ℕ, ◌+◌, Bool, List, [], ◌∷◌, ◌++◌, Option, Some, None, IfSome}
+use Rattle.std.specs.Prelude.{◌≡◌, ℕ, ◌+◌, Bool, List, [], ◌∷◌, ◌++◌, Option, None, IfSome}
 use Rattle.hilti_calls.specs.Calls.{Back.On}
 use Rattle.hilti_effects.specs.Acting.{at, resume}
 use Rattle.hilti_effects.specs.Asks.{IsThere}

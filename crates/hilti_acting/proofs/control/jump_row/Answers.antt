@@ -1,8 +1,6 @@
-use Rattle.std.proofs.Common.{refl, [], ◌∷◌, Some}
+use Rattle.std.proofs.Common.{refl, []}
 use Rattle.hilti_calls.specs.Calls.{Action.Go}
-use Rattle.hilti_calls.specs.Parts.{Mark.Cut}
-use Rattle.hilti_core.specs.declared.pieces.End.TheVariants as ends
-use Rattle.hilti_effects.specs.Acting.{at, next, passes}
+use Rattle.hilti_effects.specs.Acting.{at}
 use Rattle.hilti_effects.specs.Raising.{to_block}
 use Rattle.hilti_acting.specs.Acts.{marks}
 use Rattle.hilti_acting.specs.declared.did.Did.TheVariants as did

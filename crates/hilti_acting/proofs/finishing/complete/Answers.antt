@@ -1,4 +1,4 @@
-use Rattle.std.proofs.Common.{subst, Ok}
+use Rattle.std.proofs.Common.{subst}
 use Rattle.hilti_heap.specs.Stands.{Meets}
 use Rattle.hilti_acting.proofs.Answering.{answer_taken}
 use Rattle.hilti_acting.proofs.finishing.complete.Goals as goal

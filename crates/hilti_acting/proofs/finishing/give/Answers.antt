@@ -1,4 +1,4 @@
-use Rattle.std.proofs.Common.{refl, Some}
+use Rattle.std.proofs.Common.{refl}
 use Rattle.hilti_acting.specs.Acts.{answer_of}
 use Rattle.hilti_acting.proofs.Answering.{gives_acts, meets_fitted, made_kept}
 use Rattle.hilti_acting.proofs.finishing.give.Goals as goal

@@ -1,4 +1,3 @@
-use Rattle.std.proofs.Common.{sym, Some, None}
 use Rattle.hilti_acting.proofs.Raises.{raise_taken, raise_leaves}
 use Rattle.hilti_acting.proofs.finishing.raise.Goals as goal
 

@@ -3,7 +3,7 @@ use Rattle.hilti_heap.specs.Stands.{Meets}
 use Rattle.hilti_heap_ops.specs.Meaning.{struct_is_set}
 use Rattle.hilti_heap_ops.specs.Shapes.{HasField}
 use Rattle.hilti_effects.specs.Operands.{value_at}
-use Rattle.hilti_acting.proofs.Answering.{meets_fitted, reads, operand_covers}
+use Rattle.hilti_acting.proofs.Answering.{meets_fitted, reads}
 use Rattle.hilti_acting.proofs.structs.is_set_row.Goals as goal
 
 pub struct_is_set-answer-requires : goal.struct_is_set-answer-requires

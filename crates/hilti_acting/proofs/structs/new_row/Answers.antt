@@ -1,4 +1,4 @@
-use Rattle.std.proofs.Common.{refl, sym, subst}
+use Rattle.std.proofs.Common.{refl, subst}
 use Rattle.hilti_heap.specs.Stands.{Meets}
 use Rattle.hilti_heap_ops.specs.Meaning.{struct_new}
 use Rattle.hilti_effects.specs.Acting.{fields_of}
