@@ -1,6 +1,7 @@
 -- What was done, against what a frame does next by its meaning, from every store that the heap
 -- stands for.
-use Rattle.std.specs.Prelude.{◌≡◌, ℕ, ◌+◌, ◌^◌, ◌<◌, Bool, List, [], ◌∷◌, ◌++◌, Option, Some, None, IsSome}
+use Rattle.std.specs.Prelude.{◌≡◌, ℕ, ◌+◌, ◌^◌, ◌<◌, Bool, List, [], ◌∷◌, ◌++◌}
+use Rattle.std.specs.Prelude.{Option, Some, None, IsSome}
 use Rattle.std.specs.Prelude.{Result, Ok, Err}
 use Rattle.hilti_calls.specs.Calls.{Action.Go, Action.Call, Action.Leave}
 use Rattle.hilti_calls.specs.Parts.{Mark, Mark.Plain, Mark.Cut}

@@ -1,5 +1,5 @@
 -- The rows of the instructions of a program, by function, block and place.
-use Rattle.std.specs.Prelude.{◌≡◌, List, Option, Some, None, slice_get}
+use Rattle.std.specs.Prelude.{◌≡◌, List, Option, Some, slice_get}
 use Rattle.std.specs.Option.{option_and_then}
 use Rattle.hilti_parts.specs.declared.parts.Block.{Block}
 use Rattle.hilti_parts.specs.declared.parts.Function.{Function}

@@ -1,4 +1,4 @@
-ghost use Rattle.std.specs.Prelude.{◌≡◌, IfOk, Some, None, MatchOption};
+ghost use Rattle.std.specs.Prelude.{◌≡◌, IfOk};
 ghost use Rattle.std.specs.Option.{option_copied, option_map};
 ghost use Rattle.hilti_code.specs.Rows.{block_rows, function_rows, rows_of, row_in};
 ghost use Rattle.hilti_code.specs.declared.code.Code.{Code as Made};
@@ -24,7 +24,8 @@ pub struct Code {
 impl Code {
     /// The code of a program; `None` exactly where some instruction has no row.
     pub fn of(alloc: Global, parts: &Parts) -> Result<Option<Code>, NoMemory>
-        ensures { IfOk result (λ code. option_map (λ (made : Made). made.functions) code ≡ rows_of parts.now) }
+        ensures { IfOk result (λ code.
+            option_map (λ (made : Made). made.functions) code ≡ rows_of parts.now) }
     {
         let mut functions = Collection::new(alloc);
         for function in parts.functions.as_slice() {
