@@ -1,5 +1,5 @@
 ghost use Rattle.hilti_heap.specs.Held.{all_held};
-ghost use Rattle.hilti_heap.specs.Kept.{Covers};
+ghost use Rattle.hilti_heap.specs.Kept.{AreKept};
 ghost use Rattle.hilti_heap.specs.Stands.{Meets};
 ghost use Rattle.hilti_heap_ops.specs.Meaning as meaning;
 
@@ -14,7 +14,7 @@ pub fn callable_bind(
     function: FnId,
     arguments: Values,
 ) -> Result<Option<Value>, OpFault>
-    requires { Covers heap.old (λ s. all_held s arguments) }
+    requires { AreKept heap.old (λ s. all_held s arguments) }
     ensures { Meets (meaning.callable_bind function.n arguments) result heap.old heap.new }
 {
     heap.hold_values(&arguments)?;

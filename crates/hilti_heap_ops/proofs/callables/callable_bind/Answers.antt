@@ -1,12 +1,6 @@
-use Rattle.std.proofs.Common.{arith}
-use Rattle.hilti_heap.specs.Held.{all_held}
 use Rattle.hilti_heap.specs.declared.object.Object.TheVariants.{Bound}
-use Rattle.hilti_heap.proofs.Standing.{covers_kept, create_with}
+use Rattle.hilti_heap.proofs.Standing.{create_with}
 use Rattle.hilti_heap_ops.proofs.callables.callable_bind.Goals as goal
-
-pub hold_values-requires : goal.hold_values-requires
-hold_values-requires c =
-    covers_kept c.args.heap.now (λ s. all_held s c.args.arguments) _ c.requires (λ s. omega arith)
 
 pub returns : goal.returns
 returns c =
