@@ -1,0 +1,13 @@
+//! How threads and calls begin, and the lines that calls end with.
+#![tactic(auto)]
+
+mod arguments;
+mod entries;
+mod globals;
+pub mod laws;
+mod lines;
+
+pub use arguments::tree_value;
+pub use entries::{Opened, open};
+pub use globals::first_globals;
+pub use lines::{spent_line, uncaught_line};
