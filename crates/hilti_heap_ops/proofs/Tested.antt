@@ -9,7 +9,7 @@ use Rattle.hilti_values.specs.declared.value.Value.TheFolds.{fold-roll-Value}
 use Rattle.hilti_heap.specs.declared.object.Object.{Object}
 use Rattle.hilti_heap.specs.declared.object.Object.TheVariants.{Struct}
 use Rattle.hilti_heap.specs.Held.{is, held, all_held, held_step}
-use Rattle.hilti_heap.specs.Kept.{Kept, Covers}
+use Rattle.hilti_heap.specs.Kept.{Kept, AreKept}
 use Rattle.hilti_heap.specs.Stands.{Fits, Goes, GoesTo, IsKept}
 use Rattle.hilti_heap.specs.Stores.{Store, added}
 use Rattle.hilti_heap.proofs.Heaping.{with_here}
@@ -94,11 +94,9 @@ number_holds_nothing n s =
     ap (held s) (sym (rolls-Int n)) ∙ fold-roll-Value ℕ (held_step s) (Value-F.Int n)
 
 -- no arguments hold anything
-pub none_held : (h : Kept) (values : List Value) → h.cells ≡ [] → values ≡ []
-    → Covers h (λ s. all_held s values)
-none_held h values empty none =
-    let c = fits_covers h (λ s. 0) (empty_fits h empty) in
-    record {
-      each = λ s. let e = c.each s in let z = ap (all_held s) none in
-          let d : all_held s [] ≡ 0 = refl in omega arith;
-    }
+pub none_held : (h : Kept) (values : List Value) → values ≡ []
+    → AreKept h (λ s. all_held s values)
+none_held h values none = record {
+  each = λ s some. let z = ap (all_held s) none in
+      let d : all_held s [] ≡ 0 = refl in omega arith;
+}

@@ -3,5 +3,4 @@ use Rattle.hilti_heap_ops.proofs.tests.binds_no_arguments.Goals as goal
 
 pub callable_bind-callable-requires : goal.callable_bind-callable-requires
 callable_bind-callable-requires g c =
-    none_held c.new-heap.result c.new-arguments.result c.new-heap.ensures.cells
-    c.new-arguments.ensures
+    none_held c.new-heap.result c.new-arguments.result c.new-arguments.ensures
