@@ -1,5 +1,6 @@
 //! What calls mean, for every kind of frame, and what a machine needs to know of it. This crate has definitions and
 //! laws alone: it says nothing of instructions, values or heaps.
+#![tactic(auto)]
 //!
 //! **Frames.** A language is two functions that don't recurse, and a test. `act` says what a frame does next: it goes
 //! on after some items of the trace (`Go`), it calls one callee and then more (`Call`), or it ends with a result
@@ -39,6 +40,5 @@
 //! (`reaches_step`, and `reaches_end` where it ends), and `run_reaches` of whole runs. An action of the top that leads
 //! is a step (`go_steps`, `call_steps`) or a suspension (`go_leads`), or the top ends (`leave_leads`) and its caller
 //! goes on (`next_leads`, `on_leads`) or ends too (`out_leads`).
-#![tactic(auto)]
 
 pub mod laws;
