@@ -144,7 +144,8 @@ module _ (parts : Parts) (tree : ExceptionTree parts.exceptions) (p : Position) 
     (m : Memory) (e : ℕ) (text : List ℕ) (found : Option Handler)
     (is : IsSomeAnd (block_at parts p.function.n p.block)
     (λ (b : Block). IsCatching parts.exceptions e b.handlers found)) where
-  raised_is : (st : State) → raised parts p s.slots st e text ≡ to_handler p s.slots st e text found
+  pub raised_is : (st : State)
+      → raised parts p s.slots st e text ≡ to_handler p s.slots st e text found
   unfolding raised
   raised_is st = ap (to_handler p s.slots st e text)
       (catching_is parts.exceptions tree e (block_at parts p.function.n p.block) found is)
@@ -152,12 +153,13 @@ module _ (parts : Parts) (tree : ExceptionTree parts.exceptions) (p : Position) 
   abbrev raises : Going
   raises = of_state (λ st. as_action (raised parts p s.slots st e text)) m.globals.items
 
-  pub raise_taken : (h : Handler) → found ≡ Some h → (s' : Frames) (m' : Memory)
+  pub raise_taken : (h : Handler) → found ≡ Some h → (p' : Position) (s' : Frames) (m' : Memory)
+      → p' ≡ to_block p h.block
       → s' ≡ with_slots s (slice_set s.slots h.slot (values.Text text))
       → m'.globals.items ≡ m.globals.items → Fewer m.heap m'.heap
       → FitsWith m'.heap s' m'.globals.items None → s.made ≡ []
-      → WentOn raises s m (marks did.Went) (to_block p h.block) s' m'
-  raise_taken h is_handler s' m' stack globals fewer fits made = record {
+      → WentOn raises s m (marks did.Went) p' s' m'
+  raise_taken h is_handler p' s' m' place stack globals fewer fits made = record {
     leads = λ number ran store stands. record {
       store = store;
       stands = stands_fewer m.heap m'.heap store fewer stands;
@@ -169,7 +171,8 @@ module _ (parts : Parts) (tree : ExceptionTree parts.exceptions) (p : Position) 
           ∙ ap (λ (f : Frames). Go [] (at (to_block p h.block) f.slots)
           (thread number ran m.globals.items store)) (sym stack)
           ∙ ap (λ gs. Go [] (at (to_block p h.block) s'.slots) (thread number ran gs store))
-          (sym globals);
+          (sym globals)
+          ∙ ap (λ q. Go [] (at q s'.slots) (thread number ran m'.globals.items store)) (sym place);
     };
     fits = fits;
     below = ap (λ (f : Frames). f.below) stack;

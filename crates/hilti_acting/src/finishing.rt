@@ -1,15 +1,19 @@
 //! What was computed goes to its target, and what was raised to its handler.
-ghost use Rattle.std.specs.Prelude.{◌≡◌, ◌+◌, ◌<◌, ◌≤◌, ◌^◌, [], ℕ, Bool, Some, None, IfOk, IfSome, length};
+ghost use Rattle.std.specs.Prelude.{◌≡◌, ◌+◌, ◌<◌, ◌≤◌, ◌^◌, [], ℕ, Bool, Some, None, length, slice_set};
+ghost use Rattle.std.specs.Prelude.{IfOk, IfSome};
 ghost use Rattle.hilti_heap.specs.Held.{held};
 ghost use Rattle.hilti_heap.specs.Kept.{AreKept};
 ghost use Rattle.hilti_heap.specs.Stands.{Meets};
 ghost use Rattle.hilti_heap.specs.Stores.{Store, Answer};
 ghost use Rattle.hilti_typing.specs.Exceptions as exceptions;
-ghost use Rattle.hilti_effects.specs.Raising.{raised, as_action};
-ghost use Rattle.hilti_effects.specs.Acting.{answers, gives};
-ghost use Rattle.hilti_acting.specs.Owned.{owned};
+ghost use Rattle.hilti_stack.specs.Frames.{with_slots};
+ghost use Rattle.hilti_values.specs.declared.value.Value.TheVariants as values;
+ghost use Rattle.hilti_effects.specs.Raising.{raised, as_action, to_block};
+ghost use Rattle.hilti_effects.specs.Acting.{answers, gives, refuses};
+ghost use Rattle.hilti_acting.specs.Owned.{owned, FitsWith, Fewer};
 ghost use Rattle.hilti_effects.specs.Asks.{IsThere};
-ghost use Rattle.hilti_acting.specs.Acts.{Acts, Stands, MayRaise, Fitted, IfGives, of_state, answer_of};
+ghost use Rattle.hilti_acting.specs.Acts.{Acts, Stands, MayRaise, Fitted, IfGives};
+ghost use Rattle.hilti_acting.specs.Acts.{of_state, answer_of};
 ghost use Rattle.hilti_acting.specs.declared.memory.Memory as spec;
 
 use crate::did::Did;
@@ -18,7 +22,7 @@ use crate::places::{put, receive};
 use hilti_base::{NoMemory, Raise};
 use hilti_effects::Ending;
 use hilti_heap::{Heap, OpFault};
-use hilti_parts::Variable;
+use hilti_parts::{Handler, Variable};
 use hilti_program::Program;
 use hilti_raise::handler;
 use hilti_scalar_ops::Made;
@@ -38,6 +42,32 @@ fn raise_number(program: &Program, raise: Raise) -> u32
         Raise::NullReference => 4,
         Raise::UnsetField => 5,
         Raise::StaleIterator => 6,
+    }
+}
+
+/// A handler of the top takes the text, and the top goes on at the handler's block: its place comes back.
+pub fn take_raise(
+    p: Position,
+    stack: &mut Stack,
+    memory: &mut Memory,
+    handler: Handler,
+    text: SharedBytes,
+) -> Position
+    requires there { handler.slot < length stack.old.slots }
+    requires fits { FitsWith memory.old.heap stack.old memory.old.globals.items None }
+    ensures position { result ≡ to_block p handler.block }
+    ensures stack { stack.new ≡ with_slots stack.old
+        (slice_set stack.old.slots handler.slot (values.Text text)) }
+    ensures globals { memory.new.globals.items ≡ memory.old.globals.items }
+    ensures fewer { Fewer memory.old.heap memory.new.heap }
+    ensures fits { FitsWith memory.new.heap stack.new memory.new.globals.items None }
+{
+    let slot = Variable::Slot { n: handler.slot };
+    put(stack, memory, slot, Value::Text(text));
+    Position {
+        block: handler.block,
+        at: 0,
+        ..p
     }
 }
 
@@ -62,16 +92,32 @@ pub fn raise(
     let _parts = program.parts();
     match handler(program, p.function, p.block, exception) {
         Some(handler) => {
-            let slot = Variable::Slot { n: handler.slot };
-            put(stack, memory, slot, Value::Text(text));
-            p.block = handler.block;
-            p.at = 0;
+            *p = take_raise(*p, stack, memory, handler, text);
             Did::Went
         }
         None => Did::Left {
             ending: Ending::Raised { exception, text },
         },
     }
+}
+
+/// A built-in exception is raised in the top, without a text.
+pub fn raise_error(
+    program: &Program,
+    p: &mut Position,
+    stack: &mut Stack,
+    memory: &mut Memory,
+    error: Raise,
+) -> Did
+    requires may { MayRaise program.now p.old stack.old.slots }
+    requires stands { Stands p.old stack.old memory.old }
+    ensures { Acts
+        (of_state (λ st. refuses program.now p.old stack.old.slots st error)
+        memory.old.globals.items)
+        p.old stack.old memory.old result p.new stack.new memory.new }
+{
+    let exception = raise_number(program, error);
+    raise(program, p, stack, memory, exception, SharedBytes::empty())
 }
 
 /// What was computed is held, and is an instruction's answer.
@@ -116,10 +162,7 @@ pub fn complete(
             p.at += 1;
             Ok(Did::Went)
         }
-        Err(OpFault::Raise(error)) => {
-            let exception = raise_number(program, error);
-            Ok(raise(program, p, stack, memory, exception, SharedBytes::empty()))
-        }
+        Err(OpFault::Raise(error)) => { Ok(raise_error(program, p, stack, memory, error)) }
         Err(OpFault::NoMemory) => Err(NoMemory),
     }
 }

@@ -15,7 +15,7 @@ use hilti_stack::{Head, Position, Stack};
 use hilti_values::Value;
 
 /// The slots of the top are let go.
-fn let_go(stack: &Stack, heap: &mut Heap)
+pub fn let_go(stack: &Stack, heap: &mut Heap)
     requires { Covers heap.old (λ s. all_held s stack.now.slots) }
     ensures { Releases heap.old heap.new (λ s. all_held s stack.now.slots) }
 {

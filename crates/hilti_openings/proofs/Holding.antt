@@ -68,14 +68,14 @@ module _ (s : ℕ) where
   tuple_held parts = ap (held s) (sym (values.rolls-Tuple parts)) ∙ shape_held s (Value-F.Tuple parts)
 
   -- values hold what each of them holds
-  all_cons : (v : Value) (vs : List Value) → all_held s (v ∷ vs) ≡ held s v + all_held s vs
+  pub all_cons : (v : Value) (vs : List Value) → all_held s (v ∷ vs) ≡ held s v + all_held s vs
   all_cons v vs =
       let whole = sum-map (held s) (v ∷ vs) in
       let parts = sum_by-cons (held s) v vs in
       let others = sum-map (held s) vs in
       omega (arith, whole, parts, others)
 
-  all_append : (xs ys : List Value) → all_held s (xs ++ ys) ≡ all_held s xs + all_held s ys
+  pub all_append : (xs ys : List Value) → all_held s (xs ++ ys) ≡ all_held s xs + all_held s ys
   all_append xs ys =
       let whole = sum-map (held s) (xs ++ ys) in
       let parts = sum_by-append (held s) xs ys in
@@ -196,7 +196,7 @@ module _ (s : ℕ) where
   pub globals_held : (declared : List Global) → all_held s (map (λ (g : Global). value_or_null (value_of g.first)) declared) ≡ 0
   globals_held = all_of (λ (g : Global). value_or_null (value_of g.first)) (λ g. literal_held g.first)
 
-  locals_held : (f : Option Function) → all_held s (locals_in f) ≡ 0
+  pub locals_held : (f : Option Function) → all_held s (locals_in f) ≡ 0
   locals_held None = refl
   locals_held (Some f) = firsts_held (drop f.params f.slots)
 

@@ -35,7 +35,7 @@ fn make_arguments(alloc: Global, stack: &mut Stack, arguments: &[Tree]) -> Resul
 }
 
 /// Makes slots of variables of these types, as they are at first.
-fn make_locals(alloc: Global, stack: &mut Stack, types: &[ValueType]) -> Result<(), NoMemory>
+fn make_firsts(alloc: Global, stack: &mut Stack, types: &[ValueType]) -> Result<(), NoMemory>
     ensures { OnOk result
         (stack.new ≡ with_made stack.old (stack.old.made ++ map first_of types.now)) }
 {
@@ -58,6 +58,21 @@ fn local_types(function: &Function) -> &[ValueType]
     }
 }
 
+/// Makes the slots of a function that stand behind its parameters, as they are at first.
+pub fn make_locals(
+    alloc: Global,
+    program: &Program,
+    stack: &mut Stack,
+    f: FnId,
+) -> Result<(), NoMemory>
+    requires { f.n < length program.now.functions }
+    ensures { OnOk result (stack.new ≡ with_made stack.old
+        (stack.old.made ++ locals_in (slice_get program.now.functions f.n))) }
+{
+    make_firsts(alloc, stack, local_types(program.function(f)))?;
+    Ok(())
+}
+
 /// Makes the slots of a function: its arguments, and then its own variables.
 fn make_slots(
     alloc: Global,
@@ -72,7 +87,7 @@ fn make_slots(
         ++ map value_of_tree arguments.now ++ locals_in (slice_get program.now.functions f.n))) }
 {
     make_arguments(alloc, stack, arguments)?;
-    make_locals(alloc, stack, local_types(program.function(f)))?;
+    make_locals(alloc, program, stack, f)?;
     Ok(())
 }
 

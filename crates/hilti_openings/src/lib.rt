@@ -8,6 +8,6 @@ pub mod laws;
 mod lines;
 
 pub use arguments::tree_value;
-pub use entries::{Opened, open};
+pub use entries::{Opened, make_locals, open};
 pub use globals::first_globals;
 pub use lines::{spent_line, uncaught_line};
