@@ -1,0 +1,13 @@
+mod Typing
+mod Counting
+mod Asking
+mod Going
+mod Popping
+mod Ending
+mod Starting
+mod Giving
+mod Stopping
+mod Coding
+mod Placing
+mod Emptying
+mod ExampleTyped

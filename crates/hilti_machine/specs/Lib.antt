@@ -1,0 +1,6 @@
+pub mod Threads
+pub mod Sound
+pub mod Segments
+pub mod Begun
+pub mod Steps
+pub mod Example
