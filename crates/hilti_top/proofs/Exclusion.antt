@@ -11,7 +11,7 @@ use Rattle.hilti_refusals.specs.Refusals.{DerivesModule, NeverBoth}
 use Rattle.hilti_syntax.specs.Texts.{TextIsModule, TextRefused}
 use Rattle.hilti_link.specs.Refusals.{first_refusal}
 use Rattle.hilti_reading.specs.OneModule.{OneModule}
-use Rattle.hilti_top.specs.declared.printing.Parameter.{Parameter}
+use Rattle.hilti_prints.specs.declared.lines.Parameter.{Parameter}
 use Rattle.hilti_top.specs.ModuleTexts.{AreFrom, AreModules, IsAccepted, IsRefused, IsRefused.Length, IsRefused.Reading, IsRefused.Linking, IsRefused.Form, IsShort, IsTooLong, IsUnread}
 use Rattle.hilti_top.specs.Printing.{Prints}
 use Rattle.hilti_top.proofs.Forms as forms

@@ -9,9 +9,10 @@ use Rattle.hilti_module.specs.declared.module.Line.TheVariants as lines
 use Rattle.hilti_module.specs.declared.module.Operand.{Operand}
 use Rattle.hilti_module.specs.declared.module.Operand.TheVariants as operands
 use Rattle.hilti_module.specs.declared.module.Simple.TheVariants as simples
-use Rattle.hilti_top.specs.declared.printing.Parameter.{Parameter}
-use Rattle.hilti_top.specs.declared.printing.Parameter.TheVariants.{Time, Bytes}
-use Rattle.hilti_top.specs.Printing.{AreOperands, ArePrintLines, ArePrints, IsMain, IsNameOf, IsOperand, IsPacketItem, IsPrint, Prints}
+use Rattle.hilti_prints.specs.declared.lines.Parameter.{Parameter}
+use Rattle.hilti_prints.specs.declared.lines.Parameter.TheVariants.{Time, Bytes}
+use Rattle.hilti_prints.specs.Lines.{AreOperands, ArePrintLines}
+use Rattle.hilti_top.specs.Printing.{ArePrints, IsMain, IsNameOf, IsOperand, IsPacketItem, IsPrint, Prints}
 use Rattle.hilti_top.proofs.Shapes.{same_ends}
 use Rattle.hilti_top.proofs.Zips.{zip_once}
 

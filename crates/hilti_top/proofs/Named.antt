@@ -8,7 +8,7 @@ use Rattle.hilti_pcap.specs.declared.packet.Packet.{Packet}
 use Rattle.hilti_pcap.specs.declared.read.LeFault.{LeFault}
 use Rattle.hilti_pcap.specs.declared.read.LeFault.TheVariants as capture_faults
 use Rattle.hilti_pcap.specs.Capture.{HasPackets}
-use Rattle.hilti_top.specs.declared.printing.Parameter.{Parameter}
+use Rattle.hilti_prints.specs.declared.lines.Parameter.{Parameter}
 use Rattle.hilti_top.specs.declared.input.InputFault.TheVariants.{NotYet}
 use Rattle.hilti_top.specs.declared.modules.ModulesFault.TheVariants as modules_faults
 use Rattle.hilti_top.specs.InputFaults.{of_capture, of_refusal}

@@ -10,7 +10,7 @@ use Rattle.hilti_module.specs.declared.module.Module.{Module}
 use Rattle.hilti_link.specs.Refusals.{first_refusal}
 use Rattle.hilti_top.specs.declared.printing.FormFault.{FormFault}
 use Rattle.hilti_top.specs.declared.printing.FormFault.TheVariants.{NotYet, NoMemory}
-use Rattle.hilti_top.specs.declared.printing.Parameter.{Parameter}
+use Rattle.hilti_prints.specs.declared.lines.Parameter.{Parameter}
 use Rattle.hilti_top.specs.InputFaults.{of_form}
 use Rattle.hilti_top.specs.ModuleTexts.{AreModules, IsRefused, IsRefused.Form, IsShort, start_of}
 use Rattle.hilti_top.specs.Printing.{Prints}

@@ -17,7 +17,7 @@ use Rattle.hilti_module.specs.declared.module.Line.{Line}
 use Rattle.hilti_module.specs.declared.module.Line.TheVariants as lines
 use Rattle.hilti_module.specs.declared.module.Mnemonic.{Mnemonic}
 use Rattle.hilti_module.specs.declared.module.Operand.{Operand}
-use Rattle.hilti_top.specs.declared.printing.Parameter.{Parameter}
+use Rattle.hilti_prints.specs.declared.lines.Parameter.{Parameter}
 use Rattle.hilti_top.specs.Printing.{ArePrints, IsOperand, IsPacket, IsPacketItem, IsPrint, IsPrintWord, IsReturn}
 
 none_there : {A : Type 0} (found : Option A) → false ≡ is_some found → found ≡ None

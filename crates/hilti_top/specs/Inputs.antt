@@ -4,7 +4,7 @@ use Rattle.hilti_base.specs.declared.names.Place.{Place}
 use Rattle.hilti_outside.specs.Contents.{FileMap, WhereTold, content}
 use Rattle.hilti_pcap.specs.declared.packet.Packet.{Packet}
 use Rattle.hilti_pcap.specs.Capture.{HasPackets}
-use Rattle.hilti_top.specs.declared.printing.Parameter.{Parameter}
+use Rattle.hilti_prints.specs.declared.lines.Parameter.{Parameter}
 use Rattle.hilti_top.specs.Absence.{NoneIs}
 use Rattle.hilti_top.specs.ModuleTexts.{IsAccepted, IsRefused}
 use Rattle.hilti_top.specs.Report.{report}

@@ -4,7 +4,6 @@ pub mod Inputs
 pub mod ModuleTexts
 pub mod Opening
 pub mod Printing
-pub mod Program
 pub mod Report
 pub mod Run
 pub mod StatusText

@@ -6,7 +6,7 @@ use Rattle.hilti_base.specs.declared.refusal.Refusal.TheVariants.{At}
 use Rattle.hilti_module.specs.declared.module.Module.{Module}
 use Rattle.hilti_syntax.specs.Texts.{TextIsModule, TextRefused}
 use Rattle.hilti_link.specs.Refusals.{first_refusal}
-use Rattle.hilti_top.specs.declared.printing.Parameter.{Parameter}
+use Rattle.hilti_prints.specs.declared.lines.Parameter.{Parameter}
 use Rattle.hilti_top.specs.Printing.{Prints}
 
 -- a text isn't too long

@@ -21,17 +21,9 @@ use Rattle.hilti_module.specs.declared.module.Mnemonic.{Mnemonic}
 use Rattle.hilti_module.specs.declared.module.Operand.{Operand}
 use Rattle.hilti_module.specs.declared.module.Operand.TheVariants as operands
 use Rattle.hilti_module.specs.declared.module.Simple.TheVariants as simples
-use Rattle.hilti_top.specs.declared.printing.Parameter.{Parameter}
-use Rattle.hilti_top.specs.declared.printing.Parameter.TheVariants.{Time, Bytes}
-
--- what one line may print
-abbrev pub AreOperands : List Parameter → Type 0
-AreOperands printed = length printed ≤ 3
-
--- the print lines that a run has fuel for
-pub record ArePrintLines (lines : List (List Parameter)) : Type 0 where
-  pub short : AllByRecursion AreOperands lines
-  pub few : length lines < 1000000
+use Rattle.hilti_prints.specs.declared.lines.Parameter.{Parameter}
+use Rattle.hilti_prints.specs.declared.lines.Parameter.TheVariants.{Time, Bytes}
+use Rattle.hilti_prints.specs.Lines.{AreOperands}
 
 -- a word is the name of the first parameter, the time, or else of the second, the bytes
 abbrev pub IsNameOf : List ℕ → List ℕ → List ℕ → Parameter → Type 0

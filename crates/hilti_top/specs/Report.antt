@@ -2,20 +2,14 @@
 -- thread 0.
 use Rattle.std.specs.Prelude.{ℕ, List, [], ◌∷◌, ◌++◌, length, codes}
 use Rattle.std.specs.Fmt.{decimal}
-use Rattle.std.specs.List.{flat_map, join_by}
+use Rattle.std.specs.List.{flat_map}
 use Rattle.hilti_pcap.specs.declared.packet.Packet.{Packet}
-use Rattle.hilti_print.specs.Texts.{moment_text, escaped_text}
-use Rattle.hilti_top.specs.declared.printing.Parameter.{Parameter}
-use Rattle.hilti_top.specs.declared.printing.Parameter.TheVariants.{Time, Bytes}
+use Rattle.hilti_prints.specs.declared.lines.Parameter.{Parameter}
+use Rattle.hilti_prints.specs.Calls.{printed_text}
 
--- the value of a parameter, as `print` shows it
-abbrev pub value_text : Packet → Parameter → List ℕ
-value_text packet Time = moment_text packet.time
-value_text packet Bytes = escaped_text packet.bytes
-
--- what one print line prints: values with one space between them, on a line behind two spaces
+-- what one print line prints, on a line behind two spaces
 abbrev pub line : Packet → List Parameter → List ℕ
-line packet operands = codes "  " ++ join_by (value_text packet) (codes " ") operands ++ codes "\n"
+line packet operands = codes "  " ++ printed_text packet operands ++ codes "\n"
 
 -- what the call for one packet prints
 abbrev pub call_lines : List (List Parameter) → Packet → List ℕ

@@ -4,10 +4,10 @@ use Rattle.hilti_tree.specs.declared.call.Call.{Call}
 use Rattle.hilti_core.specs.declared.pieces.Item.{Item}
 use Rattle.hilti_core.specs.declared.pieces.Item.TheVariants.{Send, Line}
 use Rattle.hilti_core.specs.Body.{Runs}
-use Rattle.hilti_fiber.specs.Threads.{Facts}
-use Rattle.hilti_top.specs.declared.printing.Parameter.{Parameter}
-use Rattle.hilti_top.specs.Printing.{ArePrintLines}
-use Rattle.hilti_top.specs.Program.{parts_of}
+use Rattle.hilti_machine.specs.Threads.{Facts}
+use Rattle.hilti_prints.specs.declared.lines.Parameter.{Parameter}
+use Rattle.hilti_prints.specs.Lines.{ArePrintLines}
+use Rattle.hilti_prints.specs.Program.{parts_of}
 
 -- a machine for the program of these print lines
 pub record IsMachineOf (facts : Facts) (lines : List (List Parameter)) : Type 0 where

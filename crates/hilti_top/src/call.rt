@@ -2,7 +2,7 @@ ghost use Rattle.std.specs.Prelude.{◌≡◌, ◌≢◌, ℕ, List};
 ghost use Rattle.hilti_base.specs.declared.names.Place.{Place as APlace};
 ghost use Rattle.hilti_outside.specs.Contents.{Grows, GrowsByFront};
 ghost use Rattle.hilti_outside.specs.Faults.{Rose};
-ghost use Rattle.hilti_top.specs.declared.printing.Parameter.{Parameter};
+ghost use Rattle.hilti_prints.specs.declared.lines.Parameter.{Parameter};
 ghost use Rattle.hilti_top.specs.Inputs.{AreAccepted, AreRefused, IsNoCapture, Reports};
 ghost use Rattle.hilti_top.specs.Opening.{OpensFor};
 ghost use Rattle.hilti_top.specs.Words.{IsCommand};

@@ -1,8 +1,10 @@
 //! The capture of a command, from the name of its file.
 ghost use Rattle.std.specs.Prelude.{◌≡◌, ◌≢◌, ◌≤◌, [], ◌∷◌, Err, IfOk, length};
+ghost use Rattle.std.specs.List.{All};
 ghost use Rattle.hilti_outside.specs.Contents.{Grows, WhereTold, content};
 ghost use Rattle.hilti_outside.specs.Faults.{Rose};
 ghost use Rattle.hilti_pcap.specs.Capture.{HasPackets};
+ghost use Rattle.hilti_prints.specs.Calls.{IsShortPacket};
 ghost use Rattle.hilti_top.specs.Absence.{NoneIs};
 
 use hilti_outside::{FileFault, Files, read_file};
@@ -61,6 +63,7 @@ pub fn read_capture<F: Files>(
     ensures packets { IfOk result (λ packets.
         WhereTold (F.files files.old) (λ all. HasPackets (content all name.now) packets)) }
     ensures few { IfOk result (λ packets. length packets ≤ 1000000) }
+    ensures short { IfOk result (All IsShortPacket) }
     ensures not_yet { result ≡ Err InputFault.NotYet →
         WhereTold (F.files files.old) (λ all. NoneIs (HasPackets (content all name.now))) }
     ensures failed { result ≡ Err InputFault.ReadFault →

@@ -3,7 +3,7 @@ ghost use Rattle.std.specs.Prelude.{◌≡◌, ℕ, List};
 ghost use Rattle.std.specs.List.{AllByRecursion};
 ghost use Rattle.hilti_base.specs.declared.names.Place.{Place};
 ghost use Rattle.hilti_module.specs.declared.module.Module.{Module};
-ghost use Rattle.hilti_top.specs.declared.printing.Parameter.{Parameter};
+ghost use Rattle.hilti_prints.specs.declared.lines.Parameter.{Parameter};
 ghost use Rattle.hilti_top.specs.ModuleTexts.{AreModules, IsAccepted, IsRefused, IsShort};
 ghost use Rattle.hilti_top.specs.ModuleTexts.{IsTooLong, IsUnread};
 ghost use Rattle.hilti_top.specs.Printing.{Prints};

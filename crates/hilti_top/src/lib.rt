@@ -6,7 +6,6 @@ mod input;
 pub mod laws;
 mod modules;
 mod printing;
-mod program;
 mod report;
 mod run;
 mod status;
@@ -15,5 +14,5 @@ mod tests;
 mod words;
 
 pub use call::hilti_call;
-pub use printing::Parameter;
+pub use hilti_prints::Parameter;
 pub use status::Status;

@@ -8,12 +8,13 @@ ghost use Rattle.hilti_top.specs.ModuleTexts.{AreModules, IsAccepted, IsRefused,
 ghost use Rattle.hilti_top.specs.ModuleTexts.{IsTooLong, IsUnread, start_of};
 ghost use Rattle.hilti_top.specs.InputFaults.{WhereRefused};
 ghost use Rattle.hilti_top.specs.Opening.{OpensFront, OpensRefused, OpensUntil};
-ghost use Rattle.hilti_top.specs.Printing.{ArePrintLines};
+ghost use Rattle.hilti_prints.specs.Lines.{ArePrintLines};
 
-use crate::printing::{FormFault, PrintLines, printed_by_modules};
+use crate::printing::{FormFault, printed_by_modules};
 use hilti_base::{Blob, Names, NoMemory, Place, Refusal};
 use hilti_link::{Modules, link};
 use hilti_outside::{FileFault, Files, read_file};
+use hilti_prints::PrintLines;
 use hilti_syntax::read_module;
 use std::alloc::Global;
 

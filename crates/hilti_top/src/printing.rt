@@ -1,34 +1,21 @@
 //! The one form of modules that runs today: a function `packet` of print lines alone.
 ghost use Rattle.std.specs.Prelude.{◌≡◌, ◌↔◌, ◌<◌, List, IsTrue, IfOk, Err, length};
 ghost use Rattle.std.specs.List.{AllZip};
-ghost use Rattle.hilti_top.specs.declared.printing.Parameter.{Parameter as APrinted};
+ghost use Rattle.hilti_prints.specs.declared.lines.Parameter.{Parameter as APrinted};
 ghost use Rattle.hilti_top.specs.Absence.{Finds, NoneIs};
-ghost use Rattle.hilti_top.specs.Printing.{AreOperands, ArePrintLines, ArePrints, IsMain, IsNameOf};
+ghost use Rattle.hilti_prints.specs.Lines.{ArePrintLines};
+ghost use Rattle.hilti_top.specs.Printing.{ArePrints, IsMain, IsNameOf};
 ghost use Rattle.hilti_top.specs.Printing.{IsOperand, IsPacket, IsPacketItem, IsPrint, IsPrintWord};
 ghost use Rattle.hilti_top.specs.Printing.{IsReturn, IsReturnWord, Prints, is_bytes as bytes_kind};
 ghost use Rattle.hilti_top.specs.Printing.{is_time as time_kind};
 
-use hilti_base::{Collection, NoMemory};
+use hilti_base::NoMemory;
 use hilti_module::{
     Body, InnerText, Item, Line, Mnemonic, Module, Operand, Parametric, PlainInner, PlainType,
     Simple, TypeText, Word,
 };
+use hilti_prints::{Parameter, PrintLines, Printed};
 use std::alloc::Global;
-
-/// The parameters of `packet`, which a print line may name.
-#[derive(Clone, Copy, Debug, PartialEq, Eq)]
-pub enum Parameter {
-    /// The first, the time of the packet.
-    Time,
-    /// The second, the bytes of the packet.
-    Bytes,
-}
-
-/// What one print line prints, at most 3 values.
-pub type Operands = Collection<Parameter>;
-
-/// The print lines of a module, in order.
-pub type PrintLines = Collection<Operands>;
 
 /// Why modules give no print lines.
 #[derive(Clone, Copy, Debug, PartialEq, Eq)]
@@ -86,13 +73,13 @@ fn parameters_of(
     time: &[u8],
     bytes: &[u8],
     operands: &[Operand],
-) -> Result<Operands, FormFault>
+) -> Result<Printed, FormFault>
     ensures printed { IfOk result
         (λ printed. AllZip (IsOperand time.now bytes.now) operands.now printed) }
     ensures not_yet { result ≡ Err FormFault.NotYet →
         NoneIs (AllZip (IsOperand time.now bytes.now) operands.now) }
 {
-    let mut printed = Operands::new(alloc);
+    let mut printed = Printed::new(alloc);
     for operand in operands {
         let Some(parameter) = parameter_of(time, bytes, operand) else {
             return Err(FormFault::NotYet);
@@ -123,7 +110,7 @@ fn is_return_word(mnemonic: &Mnemonic) -> bool
 }
 
 /// What a print line prints.
-fn print_line(alloc: Global, time: &[u8], bytes: &[u8], line: &Line) -> Result<Operands, FormFault>
+fn print_line(alloc: Global, time: &[u8], bytes: &[u8], line: &Line) -> Result<Printed, FormFault>
     ensures printed { IfOk result (λ printed. IsPrint time.now bytes.now line.now printed) }
     ensures not_yet { result ≡ Err FormFault.NotYet → NoneIs (IsPrint time.now bytes.now line.now) }
 {

@@ -1,13 +1,15 @@
 //! The report of a run on thread 0.
 ghost use Rattle.std.specs.Prelude.{◌≡◌, ◌++◌, ◌≤◌, IfOk, OnOk, length};
-ghost use Rattle.hilti_top.specs.Printing.{ArePrintLines};
+ghost use Rattle.std.specs.List.{All};
+ghost use Rattle.hilti_prints.specs.Calls.{IsShortPacket};
+ghost use Rattle.hilti_prints.specs.Lines.{ArePrintLines};
 ghost use Rattle.hilti_top.specs.Report.{report, thread_lines, total};
 
-use crate::printing::PrintLines;
 use crate::run::append_calls;
 use hilti_base::{Blob, NoMemory};
 use hilti_pcap::{Packet, Packets};
 use hilti_print::number;
+use hilti_prints::PrintLines;
 use std::alloc::Global;
 
 /// What thread 0 did: a call for each packet.
@@ -19,6 +21,7 @@ fn append_thread(
 ) -> Result<(), NoMemory>
     requires lines { ArePrintLines lines.now }
     requires few { length packets.now ≤ 1000000 }
+    requires short { All IsShortPacket packets.now }
     ensures { OnOk result (out.new ≡ out.old ++ thread_lines lines.now packets.now) }
 {
     if packets.is_empty() {
@@ -45,6 +48,7 @@ fn append_total(out: &mut Blob, calls: u64) -> Result<(), NoMemory>
 pub fn write_report(alloc: Global, lines: &PrintLines, packets: &Packets) -> Result<Blob, NoMemory>
     requires lines { ArePrintLines lines.now }
     requires few { length packets.now ≤ 1000000 }
+    requires short { All IsShortPacket packets.now }
     ensures { IfOk result (λ text. text ≡ report lines.now packets.now) }
 {
     let mut out = Blob::new(alloc);

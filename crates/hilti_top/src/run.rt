@@ -1,21 +1,19 @@
 //! The run of a module's program over packets, on one virtual thread.
 ghost use Rattle.std.specs.Prelude.{◌≡◌, ◌++◌, ◌≤◌, List, IfOk, OnOk, length};
-ghost use Rattle.std.specs.List.{flat_map};
+ghost use Rattle.std.specs.List.{All, flat_map};
 ghost use Rattle.hilti_core.specs.Body.{IsIdle};
-ghost use Rattle.hilti_fiber.specs.Threads.{runs};
-ghost use Rattle.hilti_top.specs.declared.printing.Parameter.{Parameter};
-ghost use Rattle.hilti_top.specs.Printing.{ArePrintLines};
-ghost use Rattle.hilti_top.specs.Program.{packet_call};
+ghost use Rattle.hilti_machine.specs.Threads.{runs};
+ghost use Rattle.hilti_prints.specs.declared.lines.Parameter.{Parameter};
+ghost use Rattle.hilti_prints.specs.Calls.{IsShortPacket, call_for};
+ghost use Rattle.hilti_prints.specs.Lines.{ArePrintLines};
 ghost use Rattle.hilti_top.specs.Report.{call_lines};
 ghost use Rattle.hilti_top.specs.Run.{Finishes, IsMachineOf, item_line};
 
-use crate::printing::PrintLines;
-use crate::program::program_of;
-use hilti_base::{Blob, FnId, NoMemory, ThreadId};
-use hilti_core::{Item, Items};
-use hilti_fiber::{Machine, Vthread};
+use hilti_base::{Blob, NoMemory, ThreadId};
+use hilti_core::{Body, Item, Items};
+use hilti_machine::{Machine, Vthread};
 use hilti_pcap::Packet;
-use hilti_tree::{Call, Forest, Tree};
+use hilti_prints::{PrintLines, packet_call, program_of};
 use std::alloc::Global;
 
 /// How many instructions each call may run, which is more than a module has.
@@ -26,20 +24,8 @@ fn machine_of(alloc: Global, lines: &PrintLines) -> Result<Machine, NoMemory>
     requires { ArePrintLines lines.now }
     ensures { IfOk result (λ machine. IsMachineOf machine lines.now) }
 {
-    Ok(Machine::new(program_of(alloc, lines)?, FUEL))
-}
-
-/// The call for a packet.
-fn call_for(alloc: Global, packet: &Packet) -> Result<Call, NoMemory>
-    ensures { IfOk result (λ call. call ≡ packet_call packet.now) }
-{
-    let mut args = Forest::new(alloc);
-    args.push(Tree::Time(packet.time))?;
-    args.push(Tree::Bytes(packet.bytes.copy()?))?;
-    Ok(Call {
-        function: FnId { n: 0 },
-        args,
-    })
+    let program = program_of(alloc, lines)?;
+    Ok(Machine::new(alloc, program, FUEL)?)
 }
 
 /// A printed line behind two spaces.
@@ -74,14 +60,16 @@ fn append_call(
     vt: &mut Vthread,
     packet: &Packet,
 ) -> Result<(), NoMemory>
-    requires { IsIdle (runs machine.now vt.old) }
+    requires machine { (lines : List (List Parameter)) × IsMachineOf machine.now lines }
+    requires short { IsShortPacket packet.now }
+    requires idle { IsIdle (runs machine.now vt.old) }
     ensures lines { (lines : List (List Parameter)) → IsMachineOf machine.now lines →
         OnOk result (out.new ≡ out.old ++ call_lines lines packet.now) }
     ensures finished { (lines : List (List Parameter)) → IsMachineOf machine.now lines →
         OnOk result
-        (Finishes (runs machine.now vt.old) (packet_call packet.now) (runs machine.now vt.new)) }
+        (Finishes (runs machine.now vt.old) (call_for packet.now) (runs machine.now vt.new)) }
 {
-    machine.start(vt, call_for(alloc, packet)?)?;
+    machine.start(vt, packet_call(alloc, packet)?)?;
     let segment = machine.segment(vt)?;
     append_items(out, &segment.items)
 }
@@ -95,6 +83,7 @@ pub fn append_calls(
 ) -> Result<(), NoMemory>
     requires lines { ArePrintLines lines.now }
     requires few { length packets.now ≤ 1000000 }
+    requires short { All IsShortPacket packets.now }
     ensures { OnOk result (out.new ≡ out.old ++ flat_map (call_lines lines.now) packets.now) }
 {
     let machine = &machine_of(alloc, lines)?;

@@ -1,5 +1,6 @@
 use Rattle.std.proofs.lemmas.Result.{IfOk-weaker}
-use Rattle.hilti_top.specs.Printing.{ArePrintLines, IsMain}
+use Rattle.hilti_prints.specs.Lines.{ArePrintLines}
+use Rattle.hilti_top.specs.Printing.{IsMain}
 use Rattle.hilti_top.proofs.Forms.{main_fits}
 use Rattle.hilti_top.proofs.printing.printed_by_modules.Goals as goal
 

@@ -1,3 +1,0 @@
-pub mod Givens
-pub mod Rows
-pub mod Typing
