@@ -1,7 +1,9 @@
 -- What is read fits what is asked.
-use Rattle.std.proofs.Common.{◌≡◌, List, [], ◌∷◌, subst, Ok}
+use Rattle.std.proofs.Common.{◌≡◌, ◌∙◌, ℕ, suc, List, [], ◌∷◌, length, refl, ap, subst, Ok, Err, arith}
+use Rattle.std.specs.Prelude.{Result, take}
 use Rattle.std.specs.List.{AllByRecursion}
 use Rattle.hilti_base.specs.declared.names.Place.{Place}
+use Rattle.hilti_base.specs.declared.refusal.Refusal.{Refusal}
 use Rattle.hilti_module.specs.declared.module.Operand.{Operand as Written}
 use Rattle.hilti_module.specs.declared.module.Operand.TheVariants as written
 use Rattle.hilti_module.specs.declared.module.Simple.{Simple}
@@ -11,8 +13,9 @@ use Rattle.hilti_table.specs.declared.row.Kind.TheVariants as kinds
 use Rattle.hilti_parts.specs.declared.parts.Operand.{Operand}
 use Rattle.hilti_typing.specs.Context.{Known}
 use Rattle.hilti_typing.specs.Fits.{Asks, Fit, Gets, learn}
+use Rattle.hilti_operands.specs.Answers.{then_read}
 use Rattle.hilti_operands.specs.Groups.{read_group}
-use Rattle.hilti_operands.specs.Laws.{MayAsk, ReadsWhatIsAsked}
+use Rattle.hilti_operands.specs.Laws.{MayAsk, ReadsWhatIsAsked, IsRefusedAt, RefusesTheFirst}
 use Rattle.hilti_operands.specs.Lines.{Read, in_front, read_all}
 use Rattle.hilti_operands.specs.Operands.{read_simple, read_operand}
 use Rattle.hilti_operands.specs.Seen.{LineSeen, setting}
@@ -76,3 +79,62 @@ all_fit line gives (kind ∷ others) known (x ∷ more) read may e gets =
     let same : in_front first.0 rest.0 ≡ read = ok_is (in_front first.0 rest.0) read rest.2 in
     subst (λ (q : Read). Gets (setting line) gives q.known → Fit (setting line) gives (kind ∷ others) known q.operands) same
     (λ g. (asks, all_fit line gives others (learn (setting line) kind known first.0) more rest.0 may.1 rest.1 g)) gets
+
+-- a refusal is that of the first operand that is refused
+module _ (line : LineSeen) (kind : Kind) (others : List Kind) (known : Known) (x : Written) (more : List Written) (refusal : Refusal) where
+  abbrev First : Type 0
+  First = (at : ℕ) × IsRefusedAt line (kind ∷ others) known (x ∷ more) refusal at
+
+  first_later : (first : Operand) → read_operand line kind known x ≡ Ok first → (at : ℕ) × IsRefusedAt line others (learn (setting line) kind known first) more refusal at → First
+  unfolding read_all
+  first_later first is it = (
+    suc it.0,
+    record {
+      front = in_front first it.1.front;
+      kind = it.1.kind;
+      operand = it.1.operand;
+      front_is = ap (λ q. then_read q (λ (y : Operand). then_read (read_all line (take it.0 others) (learn (setting line) kind known y) (take it.0 more)) (λ (rest : Read). Ok (in_front y rest)))) is
+          ∙ ap (λ q. then_read q (λ (rest : Read). Ok (in_front first rest))) it.1.front_is;
+      kind_is = it.1.kind_is;
+      operand_is = it.1.operand_is;
+      refused = it.1.refused;
+    },
+  )
+
+  first_here : (other : Refusal) → read_operand line kind known x ≡ Err other → other ≡ refusal → First
+  unfolding read_all
+  first_here other is same = (
+    0,
+    record {
+      front = record { operands = []; known = known };
+      kind = kind;
+      operand = x;
+      front_is = refl;
+      kind_is = refl;
+      operand_is = refl;
+      refused = is ∙ ap Err same;
+    },
+  )
+
+err_is : {A : Type 0} (a b : Refusal) → ◌≡◌ {A = Result A Refusal} (Err a) (Err b) → a ≡ b
+err_is a b e = cc
+
+rest_refused : (r : Result Read Refusal) (first : Operand) (refusal : Refusal) → then_read r (λ (rest : Read). Ok (in_front first rest)) ≡ Err refusal → r ≡ Err refusal
+rest_refused (Ok rest) first refusal e = cc
+rest_refused (Err other) first refusal e = ap Err (err_is {A = Read} other refusal e)
+
+pub first_refused : RefusesTheFirst
+unfolding read_all
+first_refused line [] known [] refusal l e = cc
+first_refused line [] known (x ∷ more) refusal l e = absurd (omega (arith, l))
+first_refused line (kind ∷ others) known [] refusal l e = absurd (omega (arith, l))
+first_refused line (kind ∷ others) known (x ∷ more) refusal l e =
+    let fewer : length others ≡ length more = omega (arith, l) in
+    here (λ first left. first_refused line others (learn (setting line) kind known first) more refusal fewer left) (read_operand line kind known x) refl e
+  where
+    here : ((first : Operand) → read_all line others (learn (setting line) kind known first) more ≡ Err refusal → (at : ℕ) × IsRefusedAt line others (learn (setting line) kind known first) more refusal at)
+        → (r : Result Operand Refusal) → read_operand line kind known x ≡ r
+        → then_read r (λ (first : Operand). then_read (read_all line others (learn (setting line) kind known first) more) (λ (rest : Read). Ok (in_front first rest))) ≡ Err refusal
+        → (at : ℕ) × IsRefusedAt line (kind ∷ others) known (x ∷ more) refusal at
+    here again (Ok first) is e = first_later line kind others known x more refusal first is (again first (rest_refused (read_all line others (learn (setting line) kind known first) more) first refusal e))
+    here again (Err other) is e = first_here line kind others known x more refusal other is (err_is {A = Read} other refusal e)

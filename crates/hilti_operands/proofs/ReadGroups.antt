@@ -61,7 +61,7 @@ grouped_ok (Ok items) x e = (items, refl, sym (ap grouped (ok_is (operands.Group
 grouped_ok (Err refusal) x e = cc
 
 -- a group is counted, and its operands are read
-members_ok : (line : LineSeen) (kind : Kind) (place : Place) (items : List Simple) (ts : List ValueType) (x : Operand) → members_read line kind place items (Some ts) ≡ Ok x
+pub members_ok : (line : LineSeen) (kind : Kind) (place : Place) (items : List Simple) (ts : List ValueType) (x : Operand) → members_read line kind place items (Some ts) ≡ Ok x
     → (is_counted kind (length ts) (length items) ≡ true) × ((xs : List Operand) × (read_members (read_member line kind) ts items ≡ Ok xs) × (grouped x ≡ Some xs))
 members_ok line kind place items ts x e = counted (is_counted kind (length ts) (length items)) refl e
   where

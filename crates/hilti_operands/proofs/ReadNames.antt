@@ -1,6 +1,6 @@
 -- What is read of a name is what is asked.
 use Rattle.std.proofs.Common.{◌≡◌, ◌∙◌, ℕ, ◌+◌, ◌<◌, Bool, true, false, cond, IsTrue, List, [], ◌∷◌, length, sym, refl, ap, subst, Option, Some, None, Ok, arith}
-use Rattle.std.specs.Prelude.{nat_lt, not, is_some, ok_or, IsSomeAnd, IsSome, bytes_eq, slice_get, codes}
+use Rattle.std.specs.Prelude.{nat_lt, not, ◌&&◌, is_some, ok_or, IsSomeAnd, IsSome, bytes_eq, slice_get, codes}
 use Rattle.std.specs.Option.{option_map, option_and_then}
 use Rattle.std.specs.List.{position}
 use Rattle.std.proofs.lemmas.Bool.{false≢true, ltb-true}
@@ -31,8 +31,9 @@ use Rattle.hilti_parts.specs.Named.{named_block}
 use Rattle.hilti_typing.specs.Context.{Signature, Known}
 use Rattle.hilti_typing.specs.Fits.{MayBe, callee, hook, overlay, exception_number, is_mode, tuple_part, field, overlay_field, field_type, known_type, known_object, known_overlay}
 use Rattle.hilti_typing.specs.Types.{overlay_fields, fields_of, parts_of}
+use Rattle.hilti_operands.specs.Laws.{NamesNoBody}
 use Rattle.hilti_operands.specs.Seen.{BodySeen, context, function_signature, hook_signature}
-use Rattle.hilti_operands.specs.Names.{meaning_of, read_named, may_be, function_at, function_meant, hook_at, hook_meant, exception_meant, overlay_at, overlay_meant, block_at, read_label, one_word, word_meant, read_word, mode_meant, members, field_at, member_place, field_meant, read_field, read_fields, field_place, overlay_field_meant, read_overlay_field, known_parts, number_below, read_index}
+use Rattle.hilti_operands.specs.Names.{meaning_of, read_named, may_be, may_be_named, function_at, function_meant, hook_at, hook_meant, exception_meant, overlay_at, overlay_meant, block_at, read_label, one_word, word_meant, read_word, mode_meant, members, field_at, member_place, field_meant, read_field, read_fields, field_place, overlay_field_meant, read_overlay_field, known_parts, number_below, read_index}
 use Rattle.hilti_operands.proofs.ReadValues.{passed, ok_is}
 
 -- what is there
@@ -47,6 +48,11 @@ some_if false x y e = cc
 same_operand : (x y : Operand) → Some x ≡ Some y → x ≡ y
 same_operand x y e = cc
 
+both : (a b : Bool) → (a && b) ≡ true → (a ≡ true) × (b ≡ true)
+both true true e = (refl, refl)
+both true false e = absurd (false≢true e)
+both false b e = absurd (false≢true e)
+
 -- functions
 void_is : (which : Callee) (f : LinkedFunction) → may_be which f.result ≡ true → MayBe which (function_signature f)
 void_is callees.Any f e = tt
@@ -60,9 +66,9 @@ function_found : (body : BodySeen) (which : Callee) (n : ℕ) (f : Option Linked
     → IsSomeAnd (callee (context body) x) (MayBe which)
 function_found body which n None x is e = cc
 function_found body which n (Some f) x is e =
-    let p = some_if (may_be which f.result) (operands.Function (record { n = n })) x e in
+    let p = some_if (may_be_named which f) (operands.Function (record { n = n })) x e in
     subst (λ (y : Operand). IsSomeAnd (callee (context body) y) (MayBe which)) p.1
-    (subst (λ (o : Option Signature). IsSomeAnd o (MayBe which)) (sym (slice_get-map function_signature body.tables.functions n ∙ ap (option_map function_signature) is)) (void_is which f p.0))
+    (subst (λ (o : Option Signature). IsSomeAnd o (MayBe which)) (sym (slice_get-map function_signature body.tables.functions n ∙ ap (option_map function_signature) is)) (void_is which f (both (not (is_some f.hook)) (may_be which f.result) p.0).1))
 
 function_is : (body : BodySeen) (which : Callee) (meaning : Meaning) (x : Operand) → function_meant body which meaning ≡ Some x → IsSomeAnd (callee (context body) x) (MayBe which)
 function_is body which (means.Function n) x e = function_found body which n (slice_get body.tables.functions n) x refl e
@@ -70,6 +76,28 @@ function_is body which _ x e = cc
 
 pub function_asked : (body : BodySeen) (which : Callee) (simple : Simple) (x : Operand) → read_named body (function_meant body which) simple ≡ Ok x → IsSomeAnd (callee (context body) x) (MayBe which)
 function_asked body which simple x e = function_is body which (meaning_of body simple) x (there _ _ x e)
+
+-- and it is no hook body
+no_body : (which : Callee) (f : LinkedFunction) → may_be_named which f ≡ true → f.hook ≡ None
+no_body which f e = none f.hook (both (not (is_some f.hook)) (may_be which f.result) e).0
+  where
+    none : (h : Option ℕ) → not (is_some h) ≡ true → h ≡ None
+    none None e = refl
+    none (Some n) e = absurd (false≢true e)
+
+function_named : (body : BodySeen) (which : Callee) (n : ℕ) (f : Option LinkedFunction) (x : Operand) → slice_get body.tables.functions n ≡ f → function_at which n f ≡ Some x → NamesNoBody body.tables x
+function_named body which n None x is e = cc
+function_named body which n (Some f) x is e =
+    let p = some_if (may_be_named which f) (operands.Function (record { n = n })) x e in
+    subst (λ (y : Operand). NamesNoBody body.tables y) p.1
+    (subst (λ (o : Option LinkedFunction). IsSomeAnd o (λ g. g.hook ≡ None)) (sym is) (no_body which f p.0))
+
+function_meaning : (body : BodySeen) (which : Callee) (meaning : Meaning) (x : Operand) → function_meant body which meaning ≡ Some x → NamesNoBody body.tables x
+function_meaning body which (means.Function n) x e = function_named body which n (slice_get body.tables.functions n) x refl e
+function_meaning body which _ x e = cc
+
+pub function_no_body : (body : BodySeen) (which : Callee) (simple : Simple) (x : Operand) → read_named body (function_meant body which) simple ≡ Ok x → NamesNoBody body.tables x
+function_no_body body which simple x e = function_meaning body which (meaning_of body simple) x (there _ _ x e)
 
 -- hooks
 hook_found : (body : BodySeen) (n : ℕ) (h : Option LinkedHook) (x : Operand) → slice_get body.tables.hooks n ≡ h → hook_at n h ≡ Some x → IsSome (hook (context body) x)

@@ -50,7 +50,7 @@ pub ok_is : {A : Type 0} (x y : A) → ◌≡◌ {A = Result A Refusal} (Ok x) (
 ok_is x y e = cc
 
 -- a variable with its type
-found : (body : BodySeen) (o : Option Variable) (x : Operand) → option_and_then (with_its_type body) o ≡ Some x → (variable : Variable) × (kind : ValueType) × (x ≡ operands.Var variable kind) × (variable_type (context body) variable ≡ Some kind)
+pub found : (body : BodySeen) (o : Option Variable) (x : Operand) → option_and_then (with_its_type body) o ≡ Some x → (variable : Variable) × (kind : ValueType) × (x ≡ operands.Var variable kind) × (variable_type (context body) variable ≡ Some kind)
 found body None x e = cc
 found body (Some variable) x e = there (variable_type (context body) variable) refl e
   where
@@ -58,7 +58,7 @@ found body (Some variable) x e = there (variable_type (context body) variable) r
     there None k e = cc
     there (Some kind) k e = (variable, kind, cc, k)
 
-of_type_ok : (kind : ValueType) (g : Option Operand) (r : Refusal) (x : Operand) → variable_of_type kind r g ≡ Ok x → (g ≡ Some x) × (is_of_type kind (given_kind x) ≡ true)
+pub of_type_ok : (kind : ValueType) (g : Option Operand) (r : Refusal) (x : Operand) → variable_of_type kind r g ≡ Ok x → (g ≡ Some x) × (is_of_type kind (given_kind x) ≡ true)
 of_type_ok kind None r x e = cc
 of_type_ok kind (Some operand) r x e = let p = passed (is_of_type kind (given_kind operand)) operand x r e in (ap Some p.1, sym (ap (λ y. is_of_type kind (given_kind y)) p.1) ∙ p.0)
 

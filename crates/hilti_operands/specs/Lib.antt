@@ -1,4 +1,5 @@
 pub mod Answers
+pub mod Counts
 pub mod Groups
 pub mod Laws
 pub mod Lines

@@ -1,22 +1,27 @@
 -- What the operands of a line stand for, one after another.
-use Rattle.std.specs.Prelude.{ℕ, Bool, true, false, cond, List, [], ◌∷◌}
-use Rattle.std.specs.Prelude.{Option, Some, None, Result, Ok}
-use Rattle.std.specs.Option.{option_or, option_and_then, unwrap_or}
+use Rattle.std.specs.Prelude.{◌≡◌, ℕ, Bool, true, false, cond, List, [], ◌∷◌, ◌++◌}
+use Rattle.std.specs.Prelude.{Option, Some, None, Result, Ok, IfOk}
+use Rattle.std.specs.Option.{option_or, unwrap_or}
 use Rattle.hilti_base.specs.declared.names.Place.{Place}
 use Rattle.hilti_base.specs.declared.refusal.Refusal.{Refusal}
+use Rattle.hilti_types.specs.declared.declared.Declared.{Declared}
 use Rattle.hilti_types.specs.declared.value_type.ValueType.{ValueType}
 use Rattle.hilti_module.specs.declared.module.Operand.{Operand as Written}
 use Rattle.hilti_module.specs.declared.module.Operand.TheVariants as written
 use Rattle.hilti_module.specs.declared.module.Simple.TheVariants as simples
 use Rattle.hilti_table.specs.declared.row.Kind.{Kind}
 use Rattle.hilti_table.specs.declared.row.Kind.TheVariants as kinds
+use Rattle.hilti_table.specs.declared.row.Test.{Test}
+use Rattle.hilti_table.specs.declared.row.Test.TheVariants as tests
 use Rattle.hilti_parts.specs.declared.parts.Operand.{Operand}
 use Rattle.hilti_typing.specs.Context.{Known}
 use Rattle.hilti_typing.specs.Fits.{learn, int_width}
-use Rattle.hilti_typing.specs.Types.{may_be_null}
+use Rattle.hilti_typing.specs.Types.{passes}
 use Rattle.hilti_operands.specs.Answers.{then_read, refused}
 use Rattle.hilti_operands.specs.Operands.{read_operand}
-use Rattle.hilti_operands.specs.Seen.{BodySeen, LineSeen, setting}
+use Rattle.hilti_operands.specs.Seen.{BodySeen, LineSeen, setting, known_of}
+use Rattle.hilti_operands.specs.declared.known.Known.{Known as Kept}
+use Rattle.hilti_operands.specs.declared.lines.ReadOperands.{ReadOperands}
 use Rattle.hilti_operands.specs.Values.{given, kind_given}
 
 -- operands of a line, and what is known behind them
@@ -39,6 +44,38 @@ read_all line (kind ∷ others) known (x ∷ more) =
     (read_all line others (learn (setting line) kind known first) more)
     (λ (rest : Read). Ok (in_front first rest)))
 
+-- what the code holds of operands that were read
+abbrev pub so_far : BodySeen → List Operand → Kept → Read
+so_far body operands known = record { operands = operands; known = known_of body known }
+
+abbrev pub read_of : BodySeen → ReadOperands → Read
+read_of body read = so_far body read.operands read.known
+
+-- an answer that is known, seen from a body, is this
+abbrev pub Knows : {E : Type 0} → BodySeen → Result Kept E → Known → Type 0
+Knows body result told = IfOk result (λ (known : Kept). known_of body known ≡ told)
+
+-- and so is what was known before, where nothing else is told
+abbrev pub told_or : BodySeen → Known → Option Kept → Known
+told_or body before None = before
+told_or body before (Some known) = known_of body known
+
+abbrev pub Tells : {E : Type 0} → BodySeen → Known → Result (Option Kept) E → Known → Type 0
+Tells body before result told =
+    IfOk result (λ (known : Option Kept). told_or body before known ≡ told)
+
+-- one operand more
+abbrev pub with_next : LineSeen → Kind → Operand → Read → Read
+with_next line kind x read = record {
+  operands = read.operands ++ x ∷ [];
+  known = learn (setting line) kind read.known x;
+}
+
+abbrev pub with_read : LineSeen → Kind → Read → Written → Result Read Refusal
+with_read line kind read x =
+    then_read (read_operand line kind read.known x)
+    (λ (first : Operand). Ok (with_next line kind first read))
+
 -- whether a kind asks for a value
 abbrev pub asks_value : Kind → Bool
 asks_value (kinds.Fixed plain) = true
@@ -57,33 +94,32 @@ variable_written body _ = None
 abbrev pub written_type : BodySeen → Kind → Written → Option ValueType
 written_type body kind x = cond (asks_value kind) (variable_written body x) None
 
--- what is picked of the first of these types that has it
-unfoldable pub first_picked :
-    {A : Type 0} → (ValueType → Option A) → BodySeen → List Kind → List Written → Option A
-first_picked pick body [] items = None
-first_picked pick body (kind ∷ others) [] = None
-first_picked pick body (kind ∷ others) (x ∷ more) =
-    option_or (option_and_then pick (written_type body kind x))
-    (first_picked pick body others more)
+-- a type that is there and passes a test
+abbrev pub if_passing : List Declared → Test → Option ValueType → Option ValueType
+if_passing table test None = None
+if_passing table test (Some kind) = cond (passes table test kind) (Some kind) None
 
-abbrev pub width_in : ValueType → Option ℕ
-width_in kind = int_width (Some kind)
-
-abbrev pub null_in : ValueType → Option ValueType
-null_in kind = cond (may_be_null kind) (Some kind) None
+-- the type of the first operand that is a variable of a type that passes a test
+unfoldable pub first_variable :
+    BodySeen → Test → List Kind → List Written → Option ValueType
+first_variable body test [] items = None
+first_variable body test (kind ∷ others) [] = None
+first_variable body test (kind ∷ others) (x ∷ more) =
+    option_or (if_passing body.tables.types test (written_type body kind x))
+    (first_variable body test others more)
 
 -- the width of a line: that of the first operand that is a variable of an int type, else that of
 -- the target, else 64
 abbrev pub written_width : BodySeen → Option ValueType → List Kind → List Written → ℕ
 written_width body target kinds items =
-    unwrap_or (option_or (first_picked width_in body kinds items) (int_width target)) 64
+    unwrap_or (int_width (option_or (first_variable body tests.Int kinds items) target)) 64
 
 -- the type of Null where no other is asked: that of the first operand that is a variable of a type
 -- with Null, else that of the target
 abbrev pub written_null :
     BodySeen → Option ValueType → List Kind → List Written → Option ValueType
 written_null body target kinds items =
-    option_or (first_picked null_in body kinds items) target
+    option_or (first_variable body tests.Nullable kinds items) target
 
 -- a line with these operands
 abbrev pub line_with :

@@ -1,7 +1,7 @@
 -- What written names stand for.
-use Rattle.std.specs.Prelude.{ℕ, ◌+◌, nat_lt, Bool, true, false, not, cond, List, [], length, codes}
-use Rattle.std.specs.Prelude.{bytes_eq, slice_get, Option, Some, None, is_some, ok_or, Result, Ok}
-use Rattle.std.specs.Prelude.{Err}
+use Rattle.std.specs.Prelude.{ℕ, ◌+◌, nat_lt, Bool, true, false, not, ◌&&◌, cond, List, [], length}
+use Rattle.std.specs.Prelude.{codes, bytes_eq, slice_get, Option, Some, None, is_some, ok_or}
+use Rattle.std.specs.Prelude.{Result, Ok, Err}
 use Rattle.std.specs.List.{position}
 use Rattle.hilti_base.specs.declared.names.Place.{Place}
 use Rattle.hilti_base.specs.declared.refusal.Refusal.{Refusal}
@@ -48,15 +48,18 @@ named body meant simple = ok_or meant (wrong body simple)
 abbrev pub read_named : BodySeen → (Meaning → Option Operand) → Simple → Result Operand Refusal
 read_named body meant simple = named body (meant (meaning_of body simple)) simple
 
--- a function, which may have to be void
+-- a function that is no hook body, and may have to be void
 abbrev pub may_be : Callee → Option ValueType → Bool
 may_be callees.Any result = true
 may_be callees.Void result = not (is_some result)
 
+abbrev pub may_be_named : Callee → LinkedFunction → Bool
+may_be_named which f = not (is_some f.hook) && may_be which f.result
+
 abbrev pub function_at : Callee → ℕ → Option LinkedFunction → Option Operand
 function_at which n None = None
 function_at which n (Some f) =
-    cond (may_be which f.result) (Some (operands.Function (record { n = n }))) None
+    cond (may_be_named which f) (Some (operands.Function (record { n = n }))) None
 
 abbrev pub function_meant : BodySeen → Callee → Meaning → Option Operand
 function_meant body which (means.Function n) =

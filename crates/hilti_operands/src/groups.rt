@@ -218,7 +218,11 @@ pub fn known_parameters<'a>(body: &BodyView<'a>, known: &Known) -> Option<&'a [V
 }
 
 /// The types that belong to the places of a group.
-fn member_types<'a>(line: &LineView<'a>, group: Kind, known: &'a Known) -> Option<&'a [ValueType]>
+pub fn member_types<'a>(
+    line: &LineView<'a>,
+    group: Kind,
+    known: &'a Known,
+) -> Option<&'a [ValueType]>
     ensures { option_copied result ≡ spec.member_types (line_seen line.now) group
         (known_of (body_seen line.now.body) known.now) }
 {

@@ -8,7 +8,7 @@ ghost use Rattle.hilti_operands.specs.Seen.{body_seen, known_of};
 use crate::view::BodyView;
 use hilti_row_types::{fields_of, object_of, overlay_fields, part_of, parts_of, rule_of};
 use hilti_table::Part;
-use hilti_types::{Inner, Member, OverlayField, ValueType};
+use hilti_types::{Inner, Member, OverlayField, OverlayFields, ValueType};
 
 /// What the operands in front of one have told: a type, or the number of a function, a hook or an overlay.
 #[derive(Debug, Drop)]
@@ -31,7 +31,7 @@ pub fn known_type<'a>(body: &BodyView<'_>, known: &'a Known) -> Option<&'a Value
 }
 
 /// The known object.
-fn known_object<'a>(body: &BodyView<'_>, known: &'a Known) -> Option<&'a Inner>
+pub fn known_object<'a>(body: &BodyView<'_>, known: &'a Known) -> Option<&'a Inner>
     ensures { option_copied result ≡ fits.known_object (known_of (body_seen body.now) known.now) }
 {
     match known_type(body, known) {
@@ -81,16 +81,24 @@ pub fn known_members<'a>(body: &BodyView<'a>, known: &Known) -> &'a [Member]
     }
 }
 
+/// The known overlay, by its fields.
+pub fn known_overlay<'a>(body: &BodyView<'a>, known: &Known) -> Option<&'a OverlayFields>
+    ensures { option_copied result
+        ≡ fits.known_overlay (known_of (body_seen body.now) known.now) }
+{
+    match known {
+        Known::Overlay { n } => overlay_fields(&body.tables.types, *n),
+        _ => None,
+    }
+}
+
 /// The fields of the known overlay.
 pub fn known_fields<'a>(body: &BodyView<'a>, known: &Known) -> &'a [OverlayField]
     ensures { result.now ≡ names.read_fields
         (fits.known_overlay (known_of (body_seen body.now) known.now)) }
 {
-    match known {
-        Known::Overlay { n } => match overlay_fields(&body.tables.types, *n) {
-            Some(fields) => fields.as_slice(),
-            None => &[],
-        },
-        _ => &[],
+    match known_overlay(body, known) {
+        Some(fields) => fields.as_slice(),
+        None => &[],
     }
 }

@@ -27,7 +27,7 @@ use hilti_tree::Tree;
 use hilti_types::{Inner, Member, OverlayField, ValueType};
 use std::alloc::Global;
 
-/// Whether a function may be named.
+/// Whether a function without a result, or any, is asked.
 fn may_be(which: Callee, function: &LinkedFunction) -> bool
     ensures { result ≡ spec.may_be which function.now.result }
 {
@@ -37,13 +37,20 @@ fn may_be(which: Callee, function: &LinkedFunction) -> bool
     }
 }
 
+/// Whether a function may be named: no name means a hook body.
+fn may_be_named(which: Callee, function: &LinkedFunction) -> bool
+    ensures { result ≡ spec.may_be_named which function.now }
+{
+    function.hook.is_none() && may_be(which, function)
+}
+
 /// The function at a place of those that modules declare.
 fn function_at(which: Callee, n: u32, function: Option<&LinkedFunction>) -> Option<Operand>
     ensures { result ≡ spec.function_at which n (option_copied function.entry) }
 {
     match function {
         Some(function) => {
-            if may_be(which, function) {
+            if may_be_named(which, function) {
                 Some(Operand::Function { f: FnId { n } })
             } else {
                 None

@@ -39,7 +39,7 @@ pub fn copied(alloc: Global, kind: &Option<ValueType>) -> Result<Option<ValueTyp
 }
 
 /// The type that an operand gives.
-fn kind_given(found: Option<Operand>) -> Option<ValueType>
+pub fn kind_given(found: Option<Operand>) -> Option<ValueType>
     ensures { result ≡ spec.kind_given found }
 {
     match found {

@@ -1,0 +1,5 @@
+pub mod Blocks
+pub mod Examples
+pub mod Handlers
+pub mod Laws
+pub mod Sections

@@ -1,0 +1,4 @@
+pub mod Examples
+pub mod Hooks
+pub mod Returning
+pub mod Typing
