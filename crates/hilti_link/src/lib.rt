@@ -13,6 +13,7 @@ mod typed_words;
 
 pub use hilti_scope::Modules;
 pub use linking::{Linked, link};
+pub use standing::hide_all;
 pub use tables::{
     LinkedException, LinkedExceptions, LinkedFunction, LinkedFunctions, LinkedGlobal,
     LinkedGlobals, LinkedHook, LinkedHooks, Site, Tables,

@@ -39,6 +39,7 @@ impl Linked {
     pub fn modules(&self) -> &Modules
         ensures is { result.now ≡ self.now.modules }
         ensures accepted { first_refusal result.now ≡ None }
+        ensures bounded { spec.modules_count result.now ≤ 16777216 }
     {
         &self.modules
     }
@@ -56,6 +57,22 @@ impl Linked {
         ensures { result.now ≡ spec.tables_of self.now.modules }
     {
         &self.tables
+    }
+
+    /// The modules, what the names in them mean, and what they declare. It takes no memory.
+    pub fn into_parts(self) -> (Modules, Declarations, Tables)
+        ensures modules { result.0 ≡ self.modules }
+        ensures accepted { first_refusal result.0 ≡ None }
+        ensures declarations { AreOf result.0 result.1 }
+        ensures tables { result.2 ≡ spec.tables_of result.0 }
+        ensures bounded { spec.modules_count result.0 ≤ 16777216 }
+    {
+        let Linked {
+            modules,
+            declarations,
+            tables,
+        } = self;
+        (modules, declarations, tables)
     }
 }
 

@@ -109,7 +109,7 @@ fn join_names(alloc: Global, owner: &[u8], name: &[u8]) -> Result<Blob, NoMemory
 }
 
 /// Adds the words of parameters or locals to a scope, numbered from `first`, which is the number of those in front.
-fn hide_all(scope: &mut Scope<'_>, words: &[Parameter], first: usize) -> Result<(), NoMemory>
+pub fn hide_all(scope: &mut Scope<'_>, words: &[Parameter], first: usize) -> Result<(), NoMemory>
     requires { first + length words.now < 2 ^ 64 }
     ensures { OnOk result (HidesAll words.now first scope.old scope.new) }
 {

@@ -1,0 +1,11 @@
+pub mod Placing
+pub mod Handing
+pub mod Walks
+pub mod Accepted
+pub mod Grouping
+pub mod Priorities
+pub mod Blocks
+pub mod Numbers
+pub mod Parents
+pub mod Once
+pub mod Values

@@ -1,0 +1,7 @@
+pub mod Declaring
+pub mod Defaults
+pub mod Globals
+pub mod Hooks
+pub mod Sites
+pub mod Turns
+pub mod Laws
