@@ -1,2 +1,4 @@
-pub mod Fronts
-pub mod Reading
+pub mod Records
+pub mod Pieces
+pub mod Plain
+pub mod Readings
