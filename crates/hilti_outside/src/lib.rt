@@ -1,10 +1,12 @@
 //! What lies outside a run: files that are read and a sink that is written to, as traits whose contracts say what a
-//! call did and when it may fail, with fakes in memory for tests and the real ones of the system.
+//! call did and when it may fail, with fakes in memory for tests and the real ones of the system; and a gate that workers
+//! come past.
 #![tactic(auto)]
 
 mod count;
 mod disk_files;
 mod files;
+mod gate;
 mod interrupted;
 mod mem_files;
 mod mem_sink;
@@ -20,6 +22,7 @@ mod tests;
 
 pub use disk_files::DiskFiles;
 pub use files::{Failed, FileFault, Files, read_file};
+pub use gate::{Gate, OpenGate};
 pub use mem_files::MemFiles;
 pub use mem_sink::MemSink;
 pub use out_sink::OutSink;

@@ -8,3 +8,4 @@ pub mod Stands
 pub mod ComingHome
 pub mod Entries
 pub mod Roll
+pub mod Standing

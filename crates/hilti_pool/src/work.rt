@@ -18,9 +18,11 @@ impl<B: Body> Pool<B> {
     ghost use Rattle.hilti_pool.specs.Readiness.{IsReady};
     ghost use Rattle.hilti_pool.specs.Taking.{HasCause, Changes, IfJob};
     ghost use Rattle.hilti_pool.specs.Work.{IsJob, IsDone};
+    ghost use Rattle.hilti_pool.specs.Standing.{IsStanding};
 
     /// Makes room for one more event, and for posting these items. Without memory nothing changes.
     pub fn make_room(&mut self, items: &Items) -> Result<(), NoMemory>
+        ensures standing { IsStanding B.effect self.new }
         ensures ok { OnOk result (self.new ≡ record self.old { room = Some items.now }) }
         ensures err { OnErr result (self.new ≡ self.old) }
     {

@@ -1,0 +1,11 @@
+//! The texts of what a pool did: the report, and its journal.
+#![tactic(auto)]
+
+mod events;
+pub mod laws;
+#[cfg(test)]
+mod tests;
+mod threads;
+
+pub use events::journal_text;
+pub use threads::report;
