@@ -1,0 +1,12 @@
+//! The instructions that compute with times and intervals. They read no object and take no memory.
+#![tactic(auto)]
+
+mod arithmetic;
+mod computing;
+mod operands;
+mod operations;
+#[cfg(test)]
+mod tests;
+
+pub use computing::{compute_binary, compute_unary};
+pub use operations::{TimeBinary, TimeUnary};
