@@ -21,13 +21,11 @@ use Rattle.hilti_stack.specs.Frames.{Frame}
 use Rattle.hilti_calls.specs.Calls.{Back, Back.Out, Outcome.Ended, Outcome.Spent}
 use Rattle.hilti_calls.specs.Stack.{Pending, rest}
 use Rattle.hilti_calls.specs.Parts.{Part, Closing, parts_of}
-use Rattle.hilti_values.specs.Literals.{value_of}
 use Rattle.hilti_values.specs.declared.value.Value.{Value}
 use Rattle.hilti_values.specs.declared.value.Value.TheVariants as values
 use Rattle.hilti_effects.specs.declared.ending.Ending.{Ending}
 use Rattle.hilti_effects.specs.declared.ending.Ending.TheVariants as endings
 use Rattle.hilti_effects.specs.State.{State, Close, Ends, Parts as Segments}
-use Rattle.hilti_effects.specs.Operands.{value_or_null}
 use Rattle.hilti_effects.specs.Acting.{language, entry, resume}
 
 -- the value of a tree that holds no object
@@ -130,7 +128,7 @@ state_of (Spent st trace) = st
 abbrev pub fresh : Parts → ℕ → State
 fresh parts number = record {
   number = number;
-  globals = map (λ (g : Global). value_or_null (value_of g.first)) parts.globals;
+  globals = map (λ (g : Global). value_of_tree g.first) parts.globals;
   store = record { next = 0; object = λ s. None };
   ran = false;
 }

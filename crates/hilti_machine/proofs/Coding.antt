@@ -10,7 +10,7 @@ use Rattle.hilti_rows.specs.Resolving.{row_of}
 use Rattle.hilti_rows.specs.Sources.{each_of}
 use Rattle.hilti_code.specs.Rows.{block_rows, function_rows, rows_of}
 use Rattle.hilti_code.specs.declared.code.Code.{Code}
-use Rattle.hilti_shapes.specs.Places.{IsTypedProgram, IsRunnable, HasRow}
+use Rattle.hilti_code.specs.Runnable.{IsTypedProgram, IsRunnable, HasRow}
 
 module _ {A B : Type 0} (of : A → Option B) where
   more : (y : Option B) (ys : Option (List B)) → IsSome y → IsSome ys
@@ -29,15 +29,15 @@ block_some b h =
     each_some row_of HasRow (λ i r. r.some) b.instructions
     (recursion_from_All HasRow b.instructions h)
 
-function_some : (parts : Parts) (f : Function) → IsRunnable parts f → IsSome (function_rows f)
-function_some parts f r =
+function_some : (f : Function) → IsRunnable f → IsSome (function_rows f)
+function_some f r =
     each_some block_rows (λ (b : Block). All HasRow b.instructions) block_some f.blocks
-    (recursion_from_All (λ (b : Block). All HasRow b.instructions) f.blocks r.rows)
+    (recursion_from_All (λ (b : Block). All HasRow b.instructions) f.blocks r)
 
 pub has_rows : (parts : Parts) → IsTypedProgram parts → IsSome (rows_of parts)
 has_rows parts program =
-    each_some function_rows (IsRunnable parts) (function_some parts) parts.functions
-    (recursion_from_All (IsRunnable parts) parts.functions program.runnable)
+    each_some function_rows IsRunnable function_some parts.functions
+    (recursion_from_All IsRunnable parts.functions program.runnable)
 
 -- no program is without its code
 pub no_code : (parts : Parts) (code : Option Code) → IsTypedProgram parts

@@ -1,27 +1,21 @@
 -- The example is typed and runnable.
 use Rattle.std.proofs.Common.{◌≡◌, ℕ, zero, suc, [], ◌∷◌, refl, sym, arith}
 use Rattle.std.proofs.Common.{slice_get}
-use Rattle.std.proofs.Common.{Some, None, IsTrue, subst, take}
+use Rattle.std.proofs.Common.{Some, None, subst, take}
 use Rattle.std.specs.List.{All, AllZip}
 use Rattle.std.proofs.lemmas.List.Elements.{All-from_recursion}
 use Rattle.std.proofs.lemmas.Option.{slice_get_within}
 use Rattle.hilti_types.specs.declared.op.Op.TheVariants as ops
-use Rattle.hilti_types.specs.declared.value_type.Inner.TheOpen.{ValueType-F}
-use Rattle.hilti_types.specs.declared.value_type.Inner.TheFolds.{fold-roll-ValueType}
-use Rattle.hilti_types.specs.declared.value_type.ValueType.{ValueType}
-use Rattle.hilti_types.specs.declared.value_type.ValueType.TheVariants as types
 use Rattle.hilti_parts.specs.declared.parts.Block.{Block}
 use Rattle.hilti_parts.specs.declared.parts.Function.{Function}
-use Rattle.hilti_parts.specs.declared.parts.Global.{Global}
 use Rattle.hilti_parts.specs.declared.parts.Hook.{Hook}
 use Rattle.hilti_parts.specs.declared.parts.Instruction.{Instruction}
 use Rattle.hilti_parts.specs.declared.parts.Operand.TheVariants as operands
-use Rattle.hilti_typing.specs.Fits.{Fit, IsValue}
+use Rattle.hilti_typing.specs.Fits.{Fit}
 use Rattle.hilti_typing.specs.Programs.{context, IsTypedHandler, IsTypedInstruction, IsTypedBlock}
 use Rattle.hilti_typing.specs.Programs.{IsTypedFunction, EachOperand, NamesNoHookBody, IsBodyOf}
-use Rattle.hilti_typing.specs.Programs.{IsShort, IsShortFunction, AreTyped}
-use Rattle.hilti_shapes.specs.Places.{IsTypedProgram, IsRunnable, HasRow, has_constants}
-use Rattle.hilti_shapes.specs.Places.{any_object, constants_step}
+use Rattle.hilti_typing.specs.Programs.{IsShort, IsShortFunction, BeginsTyped, AreTyped}
+use Rattle.hilti_code.specs.Runnable.{IsTypedProgram, IsRunnable, HasRow}
 use Rattle.hilti_machine.specs.Example.{plain, example, packet, pauses, spins, CallsAreSound}
 use Rattle.hilti_machine.specs.Sound.{IsSound, IsArgument}
 
@@ -117,7 +111,7 @@ each_typed (suc (suc (suc k))) f e = absurd (none f e)
 
 typed : AreTyped example
 typed = record {
-  globals = nil (λ (g : Global). IsValue [] g.kind g.first);
+  globals = nil (BeginsTyped []);
   exceptions = record {
     built_in = refl;
     declared = λ at e is h.
@@ -154,40 +148,17 @@ typed = record {
   };
 }
 
--- times and bytes need no constant
-time_first : IsTrue (has_constants [] types.Time)
-time_first =
-    subst (λ t. IsTrue (has_constants [] t)) types.rolls-Time
-    (fold-roll-ValueType _ _ any_object (constants_step []) ValueType-F.Time)
-
-bytes_first : IsTrue (has_constants [] types.Bytes)
-bytes_first =
-    subst (λ t. IsTrue (has_constants [] t)) types.rolls-Bytes
-    (fold-roll-ValueType _ _ any_object (constants_step []) ValueType-F.Bytes)
-
 abbrev Rows : Block → Type 0
 Rows b = All HasRow b.instructions
-
-abbrev First : ValueType → Type 0
-First t = IsTrue (has_constants [] t)
 
 pub example_typed : IsTypedProgram example
 example_typed = record {
   typed = typed;
-  runnable = three (IsRunnable example) packet pauses spins
-      (record {
-        rows = one Rows _ (one HasRow leaves (record { some = refl; prints = tt }));
-        firsts = two First types.Time types.Bytes time_first bytes_first;
-      })
-      (record {
-        rows = one Rows _ (two HasRow yields leaves (record { some = refl; prints = tt })
-            (record { some = refl; prints = tt }));
-        firsts = nil First;
-      })
-      (record {
-        rows = one Rows _ (one HasRow jumps (record { some = refl; prints = tt }));
-        firsts = nil First;
-      });
+  runnable = three IsRunnable packet pauses spins
+      (one Rows _ (one HasRow leaves (record { some = refl; prints = tt })))
+      (one Rows _ (two HasRow yields leaves (record { some = refl; prints = tt })
+      (record { some = refl; prints = tt })))
+      (one Rows _ (one HasRow jumps (record { some = refl; prints = tt })));
 }
 
 sound : (fuel n : ℕ) (f : Function) → slice_get example.functions n ≡ Some f → f.result ≡ None

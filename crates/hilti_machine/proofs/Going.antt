@@ -19,7 +19,7 @@ use Rattle.hilti_effects.specs.State.{State, Close, Ends}
 use Rattle.hilti_effects.specs.Acting.{act, at, next, language}
 use Rattle.hilti_effects.specs.Effect.{Waiting.Caller, pending}
 use Rattle.hilti_effects.specs.declared.ending.Ending.{Ending}
-use Rattle.hilti_shapes.specs.Places.{IsTypedProgram}
+use Rattle.hilti_code.specs.Runnable.{IsTypedProgram}
 use Rattle.hilti_shapes.specs.Keeping.{Keeps, Ends as EndsTyped}
 use Rattle.hilti_shapes.proofs.Acting.{acts_keep_types}
 use Rattle.hilti_acting.specs.Acts.{Going, Acts, WentOn, Calls, Leaves, does_at}

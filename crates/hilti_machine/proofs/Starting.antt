@@ -28,7 +28,8 @@ use Rattle.hilti_effects.specs.Effect.{waits}
 use Rattle.hilti_effects.specs.Effect.{closing, state_of, fresh, first_of, state_after, outcome}
 use Rattle.hilti_effects.specs.Effect.{value_of_tree}
 use Rattle.hilti_shapes.specs.Needs.{Kinds, Have, Meets, no_kinds}
-use Rattle.hilti_shapes.specs.Places.{IsTypedProgram, AreShared}
+use Rattle.hilti_code.specs.Runnable.{IsTypedProgram}
+use Rattle.hilti_shapes.specs.Places.{AreShared}
 use Rattle.hilti_shapes.specs.Keeping.{Begins, GoesOn}
 use Rattle.hilti_shapes.proofs.Threads.{entries_are_typed, fresh_threads_are_typed}
 use Rattle.hilti_openings.specs.Openings.{Opens}

@@ -13,7 +13,7 @@ use Rattle.hilti_parts.specs.declared.parts.Function.{Function}
 use Rattle.hilti_typing.specs.Programs.{is_hook_body}
 use Rattle.hilti_effects.specs.Effect.{value_of_tree}
 use Rattle.hilti_shapes.specs.Needs.{needs, nothing}
-use Rattle.hilti_shapes.specs.Places.{IsTypedProgram}
+use Rattle.hilti_code.specs.Runnable.{IsTypedProgram}
 use Rattle.hilti_machine.specs.Threads.{Facts}
 
 -- a net has a length, counted from the 128-bit top, and no bits behind it

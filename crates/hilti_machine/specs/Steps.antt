@@ -28,7 +28,8 @@ use Rattle.hilti_effects.specs.Effect.{pending, closing, state_of, segment_of}
 use Rattle.hilti_effects.specs.declared.ending.Ending.{Ending}
 use Rattle.hilti_effects.specs.declared.ending.Ending.TheVariants as endings
 use Rattle.hilti_shapes.specs.Needs.{Kinds}
-use Rattle.hilti_shapes.specs.Places.{AreShared, IsTypedProgram}
+use Rattle.hilti_code.specs.Runnable.{IsTypedProgram}
+use Rattle.hilti_shapes.specs.Places.{AreShared}
 use Rattle.hilti_shapes.specs.Keeping.{Ends as EndsTyped}
 use Rattle.hilti_acting.specs.Acts.{thread, carried}
 use Rattle.hilti_acting.specs.Owned.{FitsWith, Fewer}

@@ -24,7 +24,8 @@ use Rattle.hilti_effects.specs.Acting.{at, language}
 use Rattle.hilti_effects.specs.Effect.{Waiting, Waiting.Caller, Waiting.Behind, pending, opens}
 use Rattle.hilti_effects.specs.Effect.{closing, state_of, fresh, first_of, state_after, segments_in}
 use Rattle.hilti_shapes.specs.Needs.{Kinds}
-use Rattle.hilti_shapes.specs.Places.{AreShared, IsConfig, IsTypedProgram}
+use Rattle.hilti_code.specs.Runnable.{IsTypedProgram}
+use Rattle.hilti_shapes.specs.Places.{AreShared, IsConfig}
 use Rattle.hilti_shapes.specs.Keeping.{Begins}
 use Rattle.hilti_openings.specs.Openings.{HoldNothing}
 use Rattle.hilti_openings.specs.declared.entries.Opened.{Opened}

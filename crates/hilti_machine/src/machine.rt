@@ -1,6 +1,6 @@
 //! Virtual threads that run the calls of a program.
 ghost use Rattle.std.specs.Prelude.{◌≡◌, ◌≤◌, IfOk, IfSome};
-ghost use Rattle.hilti_shapes.specs.Places.{IsTypedProgram};
+ghost use Rattle.hilti_code.specs.Runnable.{IsTypedProgram};
 
 use crate::calling::begin;
 use crate::run::run;
@@ -33,7 +33,7 @@ impl Model for Machine {
     ghost use Rattle.hilti_tree.specs.contracts.tree.Tree as trees;
     ghost use Rattle.hilti_parts.specs.contracts.parts.Operand as operands;
     ghost use Rattle.hilti_code.specs.Rows.{rows_of};
-    ghost use Rattle.hilti_shapes.specs.Places.{IsTypedProgram};
+    ghost use Rattle.hilti_code.specs.Runnable.{IsTypedProgram};
     ghost use Rattle.hilti_machine.specs.Threads.{Facts, IsMachine};
 
     ghost Value = { Facts };

@@ -1,7 +1,7 @@
 //! A program of which one function suspends itself, and one never ends.
 ghost use Rattle.std.specs.Prelude.{◌≡◌, ◌≤◌, [], ◌∷◌, IfOk};
 ghost use Rattle.hilti_typing.specs.Exceptions.{built_in_exceptions, below_top};
-ghost use Rattle.hilti_shapes.specs.Places.{IsTypedProgram};
+ghost use Rattle.hilti_code.specs.Runnable.{IsTypedProgram};
 ghost use Rattle.hilti_machine.specs.Example as written;
 ghost use Rattle.hilti_machine.specs.Example.{CallsAreSound};
 

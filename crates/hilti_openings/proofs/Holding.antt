@@ -1,4 +1,4 @@
--- Values of literals, trees and types hold no object.
+-- Values of trees and types hold no object.
 use Rattle.std.proofs.Common.{◌≡◌, ℕ, ◌+◌, List, [], ◌∷◌, ◌++◌, map, refl, sym, ap, ◌∙◌, Option, Some, None, arith, drop}
 use Rattle.std.specs.Prelude.{slice_get}
 use Rattle.std.proofs.lemmas.List.Sums.{sum-map, sum_by-append, sum_by-cons}
@@ -22,8 +22,8 @@ use Rattle.hilti_parts.specs.declared.parts.Parts.{Parts}
 use Rattle.hilti_stack.specs.Frames.{Frame}
 use Rattle.hilti_effects.specs.Acting.{entry, locals_in}
 use Rattle.hilti_effects.specs.Effect.{value_of_tree, value_step}
-use Rattle.hilti_openings.specs.Openings.{BeginWithNothing}
 use Rattle.hilti_effects.specs.Operands.{value_or_null}
+use Rattle.hilti_openings.specs.Openings.{BeginWithNothing}
 use Rattle.hilti_parts.specs.declared.parts.Global.{Global}
 
 -- a value of a shape holds what its shape says of what its parts hold
@@ -193,8 +193,8 @@ module _ (s : ℕ) where
   pub firsts_held : (types : List ValueType) → all_held s (map first_of types) ≡ 0
   firsts_held = all_of first_of first_held
 
-  pub globals_held : (declared : List Global) → all_held s (map (λ (g : Global). value_or_null (value_of g.first)) declared) ≡ 0
-  globals_held = all_of (λ (g : Global). value_or_null (value_of g.first)) (λ g. literal_held g.first)
+  pub globals_held : (declared : List Global) → all_held s (map (λ (g : Global). value_of_tree g.first) declared) ≡ 0
+  globals_held = all_of (λ (g : Global). value_of_tree g.first) (λ g. tree_held g.first)
 
   pub locals_held : (f : Option Function) → all_held s (locals_in f) ≡ 0
   locals_held None = refl

@@ -44,7 +44,8 @@ use Rattle.hilti_effects.specs.declared.ending.Ending.TheVariants as endings
 use Rattle.hilti_shapes.specs.Needs.{Kinds, Has, Have, IsResult}
 use Rattle.hilti_shapes.specs.Objects.{CanRun, Answers}
 use Rattle.hilti_shapes.specs.TypedRows.{IsSource, IsTarget, Receives, IsCall, IsBind, IsStructRow, IsRow}
-use Rattle.hilti_shapes.specs.Places.{IsTypedProgram, IsAt, IsFrame, result_type, TakesResult, Chain, IsState}
+use Rattle.hilti_code.specs.Runnable.{IsTypedProgram}
+use Rattle.hilti_shapes.specs.Places.{IsAt, IsFrame, result_type, TakesResult, Chain, IsState}
 use Rattle.hilti_shapes.specs.Keeping.{GoesOn, Ends, Keeps, KeepsBack, ActsKeepTypes, ReturnsKeepTypes}
 use Rattle.hilti_shapes.proofs.Growing.{have_grow, same_kinds}
 use Rattle.hilti_shapes.proofs.Values.{has_bool}

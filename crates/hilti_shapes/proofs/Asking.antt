@@ -31,12 +31,12 @@ use Rattle.hilti_rows.specs.declared.row.StructRow.TheVariants as structs
 use Rattle.hilti_scalar_ops.specs.Computing.{IsBool, TakesOne}
 use Rattle.hilti_stack.specs.declared.head.Position.{Position}
 use Rattle.hilti_effects.specs.Operands.{value_or_null, value_at}
-use Rattle.hilti_effects.specs.Printing.{tree_of}
 use Rattle.hilti_effects.specs.Asks.{Gets, Any, IsText, AreThere, AsksPrinted, Asks, AsksStruct}
 use Rattle.hilti_shapes.specs.Needs.{Kinds, Meets, Has, no_kinds}
 use Rattle.hilti_shapes.specs.Objects.{field_types}
-use Rattle.hilti_shapes.specs.TypedRows.{IsSource, AreSources, IsField, IsStructRow, IsRow, PrintsTexts, has_text}
-use Rattle.hilti_shapes.specs.Places.{IsTypedProgram, IsAt, AreShared}
+use Rattle.hilti_shapes.specs.TypedRows.{IsSource, AreSources, IsField, IsStructRow, IsRow}
+use Rattle.hilti_code.specs.Runnable.{IsTypedProgram, PrintsTexts, has_text}
+use Rattle.hilti_shapes.specs.Places.{IsAt, AreShared}
 use Rattle.hilti_shapes.specs.Keeping.{HoldsAll, FindWhatRowsAsk}
 use Rattle.hilti_shapes.proofs.Sources.{mapped}
 use Rattle.hilti_shapes.proofs.Values.{IsString, StringIs, Refers, RefersNull, RefersTo, is_string, refers}

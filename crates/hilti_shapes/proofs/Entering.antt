@@ -26,8 +26,9 @@ use Rattle.hilti_stack.specs.declared.head.Position.{Position}
 use Rattle.hilti_effects.specs.Acting.{row_at, instruction_in, next, entry, locals_in}
 use Rattle.hilti_effects.specs.Raising.{to_block}
 use Rattle.hilti_shapes.specs.Needs.{Kinds, Has, Have, no_kinds}
-use Rattle.hilti_shapes.specs.TypedRows.{IsRow, PrintsTexts}
-use Rattle.hilti_shapes.specs.Places.{HasRow, IsRunnable, IsTypedProgram, IsAt, IsFrame, has_constants}
+use Rattle.hilti_shapes.specs.TypedRows.{IsRow}
+use Rattle.hilti_code.specs.Runnable.{HasRow, IsRunnable, IsTypedProgram, PrintsTexts}
+use Rattle.hilti_shapes.specs.Places.{IsAt, IsFrame}
 use Rattle.hilti_shapes.proofs.Growing.{have_grow, none_grows}
 use Rattle.hilti_shapes.proofs.Firsts.{firsts_have}
 use Rattle.hilti_shapes.proofs.Endings.{ends, ends_by}
@@ -78,8 +79,8 @@ module _ (parts : Parts) (program : IsTypedProgram parts) where
   block_here p slots k a = ap (option_and_then (λ (f : Function). slice_get f.blocks p.block)) a.in_parts
       ∙ a.in_function
 
-  runnable_at : (n : ℕ) (f : Function) → slice_get parts.functions n ≡ Some f → IsRunnable parts f
-  runnable_at n f e = all_at (IsRunnable parts) parts.functions n f program.runnable e
+  runnable_at : (n : ℕ) (f : Function) → slice_get parts.functions n ≡ Some f → IsRunnable f
+  runnable_at n f e = all_at IsRunnable parts.functions n f program.runnable e
 
   not_last : (i : Instruction) (at n : ℕ) → is_ending i ≡ false → (at + 1 ≡ n → IsTrue (is_ending i)) → at < n
       → at + 1 < n
@@ -89,7 +90,7 @@ module _ (parts : Parts) (program : IsTypedProgram parts) where
       → RowAt parts p a.function a.block
   row_here p slots k a =
       let x = some_at a.block.instructions p.at a.within in
-      let blocks = (runnable_at p.function.n a.function a.in_parts).rows in
+      let blocks = runnable_at p.function.n a.function a.in_parts in
       let has = all_at HasRow a.block.instructions p.at x.0 (all_at (λ (b : Block). All HasRow b.instructions)
       a.function.blocks p.block a.block blocks a.in_function) x.1 in
       let r = row_there (row_of x.0) has.some in
@@ -151,6 +152,5 @@ module _ (parts : Parts) (program : IsTypedProgram parts) where
         within = (typed_blocks_end (context parts f.n g) g.params b.0 typed).some;
         slots_are = subst (λ o. Have parts.types k (args ++ locals_in o) g.slots) (sym e)
             (entry_have (Has parts.types k) g.params g.slots args h (have_grow parts.types no_kinds k (none_grows k)
-            (map first_of g.slots) g.slots (firsts_have parts.types g.slots (recursion_from_All (λ (t :
-            ValueType). IsTrue (has_constants parts.types t)) g.slots (runnable_at f.n g e).firsts))));
+            (map first_of g.slots) g.slots (firsts_have parts.types g.slots)));
       }

@@ -1,6 +1,7 @@
 pub mod Acting
 pub mod Asking
 pub mod Chains
+pub mod Defaults
 pub mod Endings
 pub mod Entering
 pub mod Examples

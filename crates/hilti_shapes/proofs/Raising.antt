@@ -22,7 +22,8 @@ use Rattle.hilti_stack.specs.Frames.{Frame, frame}
 use Rattle.hilti_effects.specs.State.{State, GoesBack}
 use Rattle.hilti_effects.specs.Raising.{catches, catching, to_block, to_handler, raised, as_action}
 use Rattle.hilti_shapes.specs.Needs.{Kinds, Grows, Has}
-use Rattle.hilti_shapes.specs.Places.{IsTypedProgram, IsAt, IsFrame, Chain, IsState}
+use Rattle.hilti_code.specs.Runnable.{IsTypedProgram}
+use Rattle.hilti_shapes.specs.Places.{IsAt, IsFrame, Chain, IsState}
 use Rattle.hilti_shapes.specs.Keeping.{GoesOn, Keeps, KeepsBack}
 use Rattle.hilti_shapes.proofs.Growing.{same_kinds, zip_put}
 use Rattle.hilti_shapes.proofs.Values.{has_text}

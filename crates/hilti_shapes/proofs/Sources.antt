@@ -2,7 +2,7 @@
 use Rattle.std.proofs.Common.{◌≡◌, ℕ, ◌^◌, Bool, true, false, IsTrue, List, [], ◌∷◌, refl, sym, ap}
 use Rattle.std.proofs.Common.{◌∙◌, Option, Some, None, slice_get}
 use Rattle.std.proofs.Math.Path.{subst}
-use Rattle.std.specs.Prelude.{nat_lt}
+use Rattle.std.specs.Prelude.{nat_lt, nat_eq, ◌||◌}
 use Rattle.std.specs.Option.{option_map, option_and_then}
 use Rattle.std.proofs.lemmas.Bool.{false≢true}
 use Rattle.std.proofs.lemmas.Option.{same_Some}
@@ -61,6 +61,10 @@ module _ (table : List Declared) where
   fits_nothing true h = refl
   fits_nothing false h = absurd (false≢true h)
 
+  or_true : (a b : Bool) → IsTrue b → IsTrue (a || b)
+  or_true true b h = refl
+  or_true false b h = h
+
   -- literals of types need nothing
   wide : (n : ℕ) (shape : ValueType-F Inner ValueType) → IsTrue (is_wide n (roll-ValueType shape))
       → needs table (values.Int n) (roll-ValueType shape) ≡ nothing
@@ -97,7 +101,8 @@ module _ (table : List Declared) where
   pick n (ValueType-F.Enum m) h =
       shape_needs table (Value-F.Pick n) (values.Pick n) (ValueType-F.Enum m) (roll-ValueType (ValueType-F.Enum m))
       (values.rolls-Pick n) refl
-      ∙ fits_nothing (is_constant n (slice_get table m)) (ap (is_pick table n) (sym (types.rolls-Enum m)) ∙ h)
+      ∙ fits_nothing (nat_eq n 0 || is_constant n (slice_get table m))
+      (or_true (nat_eq n 0) (is_constant n (slice_get table m)) (ap (is_pick table n) (sym (types.rolls-Enum m)) ∙ h))
   pick n (ValueType-F.Tuple parts) h = absurd (false≢true (ap (is_pick table n) (sym (types.rolls-Tuple parts)) ∙ h))
   pick n (ValueType-F.Iter over) h = absurd (false≢true (ap (is_pick table n) (sym (types.rolls-Iter over)) ∙ h))
   pick n (ValueType-F.Ref to) h = absurd (false≢true (ap (is_pick table n) (sym (types.rolls-Ref to)) ∙ h))

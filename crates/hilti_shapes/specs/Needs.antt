@@ -1,6 +1,6 @@
 -- Values of types: what a value of a type needs of the objects that it names.
-use Rattle.std.specs.Prelude.{◌≡◌, ℕ, ◌^◌, nat_lt, List, [], ◌∷◌, ◌++◌, Option, Some, None}
-use Rattle.std.specs.Prelude.{IfSome, IsSomeAnd, slice_get, if◌then◌else◌, Bool}
+use Rattle.std.specs.Prelude.{◌≡◌, ℕ, ◌^◌, nat_lt, nat_eq, ◌||◌, Bool, if◌then◌else◌, List, []}
+use Rattle.std.specs.Prelude.{◌∷◌, ◌++◌, slice_get, Option, Some, None, IfSome, IsSomeAnd}
 use Rattle.std.specs.List.{AllByRecursion, AllZip}
 use Rattle.hilti_types.specs.declared.declared.Declared.{Declared}
 use Rattle.hilti_types.specs.declared.value_type.Inner.{Inner}
@@ -45,7 +45,7 @@ all_need (part ∷ parts) (t ∷ types) = both_need (part t) (all_need parts typ
 all_need _ _ = None
 
 -- a number is below 2 to its width, a pick is the place of a constant, and Null is of each type
--- that names objects
+-- that names objects; the first place is of each enum, since no written enum is without constants
 abbrev pub needs_shape : List Declared → Value-F (ValueType → Needs)
     → ValueType-F Inner ValueType → Needs
 needs_shape table (Value-F.Bool truth) ValueType-F.Bool = nothing
@@ -58,7 +58,7 @@ needs_shape table (Value-F.Port n is_udp) ValueType-F.Port = nothing
 needs_shape table (Value-F.Time nanos) ValueType-F.Time = nothing
 needs_shape table (Value-F.Span nanos) ValueType-F.Span = nothing
 needs_shape table (Value-F.Pick n) (ValueType-F.Enum m) =
-    nothing_if (is_constant n (slice_get table m))
+    nothing_if (nat_eq n 0 || is_constant n (slice_get table m))
 needs_shape table (Value-F.Tuple parts) (ValueType-F.Tuple types) = all_need parts types
 needs_shape table Value-F.Null ValueType-F.Callable = nothing
 needs_shape table Value-F.Null (ValueType-F.Iter over) = nothing

@@ -1,20 +1,14 @@
 -- Typed programs, and calls in progress whose values are of their types.
 use Rattle.std.specs.Prelude.{◌≡◌, ◌<◌, List, [], ◌∷◌, length, map, slice_get, Option, Some}
-use Rattle.std.specs.Prelude.{IfSome, IsSome, IsTrue, Bool, true}
-use Rattle.std.specs.List.{All, AllByRecursion, list_all}
+use Rattle.std.specs.Prelude.{IfSome}
+use Rattle.std.specs.List.{AllByRecursion}
 use Rattle.std.specs.Option.{option_and_then}
-use Rattle.hilti_types.specs.declared.declared.Declared.{Declared}
-use Rattle.hilti_types.specs.declared.value_type.Inner.TheOpen.{Inner-F, ValueType-F}
-use Rattle.hilti_types.specs.declared.value_type.Inner.TheFolds.{fold-ValueType}
 use Rattle.hilti_types.specs.declared.value_type.ValueType.{ValueType}
 use Rattle.hilti_parts.specs.declared.parts.Block.{Block}
 use Rattle.hilti_parts.specs.declared.parts.Function.{Function}
 use Rattle.hilti_parts.specs.declared.parts.Global.{Global}
-use Rattle.hilti_parts.specs.declared.parts.Instruction.{Instruction}
 use Rattle.hilti_parts.specs.declared.parts.Parts.{Parts}
-use Rattle.hilti_typing.specs.Fits.{is_constant}
-use Rattle.hilti_typing.specs.Programs.{AreTyped, context}
-use Rattle.hilti_rows.specs.Resolving.{row_of}
+use Rattle.hilti_typing.specs.Programs.{context}
 use Rattle.hilti_values.specs.declared.value.Value.{Value}
 use Rattle.hilti_stack.specs.declared.head.Head.{Head}
 use Rattle.hilti_stack.specs.declared.head.Head.TheVariants as heads
@@ -26,36 +20,7 @@ use Rattle.hilti_effects.specs.declared.ending.Ending.{Ending}
 use Rattle.hilti_effects.specs.declared.ending.Ending.TheVariants as endings
 use Rattle.hilti_shapes.specs.Needs.{Kinds, Have, IsResult}
 use Rattle.hilti_shapes.specs.Objects.{IsStore}
-use Rattle.hilti_shapes.specs.TypedRows.{Receives, PrintsTexts}
-
--- an instruction has a row, and prints what has a text
-pub record HasRow (i : Instruction) : Type 0 where
-  pub some : IsSome (row_of i)
-  pub prints : IfSome (row_of i) PrintsTexts
-
--- whether each enum in a type has a constant, which variables hold at first
-abbrev pub constants_step : List Declared → ValueType-F Bool Bool → Bool
-constants_step table (ValueType-F.Enum n) = is_constant 0 (slice_get table n)
-constants_step table (ValueType-F.Tuple parts) = list_all (λ has. has) parts
-constants_step table _ = true
-
--- variables hold no object at first
-abbrev pub any_object : Inner-F Bool Bool → Bool
-any_object _ = true
-
-abbrev pub has_constants : List Declared → ValueType → Bool
-has_constants table = fold-ValueType Bool Bool any_object (constants_step table)
-
--- each instruction of a function has a row, and the enums among the types of its variables have
--- constants
-pub record IsRunnable (parts : Parts) (f : Function) : Type 0 where
-  pub rows : All (λ (b : Block). All HasRow b.instructions) f.blocks
-  pub firsts : All (λ (t : ValueType). IsTrue (has_constants parts.types t)) f.slots
-
--- a typed program of runnable functions
-pub record IsTypedProgram (parts : Parts) : Type 0 where
-  pub typed : AreTyped parts
-  pub runnable : All (IsRunnable parts) parts.functions
+use Rattle.hilti_shapes.specs.TypedRows.{Receives}
 
 -- a function at an instruction, with slots of its types
 pub record IsAt (parts : Parts) (p : Position) (slots : List Value) (kinds : Kinds) : Type 0 where

@@ -1,6 +1,6 @@
 -- Typed rows: sources and targets of the types that a row computes with, in the context of a body.
 use Rattle.std.specs.Prelude.{◌≡◌, ℕ, ◌<◌, List, slice_get, Option, Some, None}
-use Rattle.std.specs.Prelude.{IfSome, IsSomeAnd, IsTrue, Bool, true, false}
+use Rattle.std.specs.Prelude.{IfSome, IsSomeAnd}
 use Rattle.std.specs.List.{AllByRecursion, AllZip}
 use Rattle.hilti_int.specs.Integers.{bits_of}
 use Rattle.hilti_types.specs.declared.value_type.Inner.TheVariants as inners
@@ -139,18 +139,3 @@ IsRow c rows.ReturnVoid = c.result ≡ None
 IsRow c (rows.ReturnResult value) = IsSomeAnd c.result (IsSource c value)
 IsRow c (rows.Throw exception text) = IsThrow c exception text
 IsRow c (rows.Struct row) = IsStructRow c row
-
--- the types that `print` has texts for so far
-abbrev pub has_text : ValueType → Bool
-has_text types.Bool = true
-has_text (types.Int bits) = true
-has_text types.Text = true
-has_text types.Bytes = true
-has_text types.Time = true
-has_text _ = false
-
--- what a row prints has a text
-abbrev pub PrintsTexts : Row → Type 0
-PrintsTexts (rows.Print items) =
-    AllByRecursion (λ (item : Printed). IsTrue (has_text item.kind)) items
-PrintsTexts _ = Unit {0}

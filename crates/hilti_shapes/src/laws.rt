@@ -3,7 +3,7 @@ ghost use Rattle.hilti_parts.specs.declared.parts.Parts.{Parts};
 ghost use Rattle.hilti_shapes.specs.Examples.{TypedBeginning, UntypedBeginnings, TypedValues};
 ghost use Rattle.hilti_shapes.specs.Keeping.{FindWhatRowsAsk, ActsKeepTypes, ReturnsKeepTypes};
 ghost use Rattle.hilti_shapes.specs.Keeping.{EntriesAreTyped, FreshThreadsAreTyped};
-ghost use Rattle.hilti_shapes.specs.Places.{IsTypedProgram};
+ghost use Rattle.hilti_code.specs.Runnable.{IsTypedProgram};
 
 /// A call in progress of a typed program is at a row, and finds values and objects as the row asks, whatever heap
 /// stands for its store and counts what its slots and the globals hold.

@@ -1,5 +1,5 @@
 -- Parts that are typed, and parts that aren't.
-use Rattle.std.proofs.Common.{◌≡◌, ◌<◌, ◌≤◌, ◌+◌, ℕ, zero, suc, List, [], ◌∷◌, refl, sym, ap, ◌∙◌, arith, length, position, slice_get, All}
+use Rattle.std.proofs.Common.{◌≡◌, ◌<◌, ◌≤◌, ◌+◌, ℕ, zero, suc, List, [], ◌∷◌, refl, sym, ap, ◌∙◌, arith, length, position, slice_get, All, inl}
 use Rattle.std.proofs.Common.{Option, Some, None, IsSomeAnd}
 use Rattle.std.proofs.Math.Path.{subst}
 use Rattle.std.proofs.lemmas.Bool.{false≢true}
@@ -17,8 +17,8 @@ use Rattle.hilti_parts.specs.declared.parts.Block.{Block}
 use Rattle.hilti_parts.specs.declared.parts.Handler.{Handler}
 use Rattle.hilti_parts.specs.declared.parts.Instruction.{Instruction}
 use Rattle.hilti_typing.specs.Context.{Signature, Context}
-use Rattle.hilti_typing.specs.Fits.{Fit, IsTypedLine, IsValue}
-use Rattle.hilti_typing.specs.Programs.{context, is_ending, IsTypedHandler, IsTypedInstruction, IsTypedBlock, IsTypedFunction, EachOperand, NamesNoHookBody}
+use Rattle.hilti_typing.specs.Fits.{Fit, IsTypedLine}
+use Rattle.hilti_typing.specs.Programs.{BeginsTyped, context, is_ending, IsTypedHandler, IsTypedInstruction, IsTypedBlock, IsTypedFunction, EachOperand, NamesNoHookBody}
 use Rattle.hilti_typing.specs.Programs.{IsBodyOf, IsShort, IsShortFunction}
 use Rattle.hilti_typing.specs.Programs.{AreTyped, body_at}
 use Rattle.hilti_typing.specs.ProgramExamples.{bare, leaving, leaving_block, catching, with_functions, busy, seen_hook, packet, seen, done, stopping, own_parent, whole, UntypedParts}
@@ -96,7 +96,7 @@ short_leaving name slots params handlers op h = record {
 
 pub whole_is_typed : AreTyped whole
 whole_is_typed = record {
-  globals = one (λ (g : Global). IsValue [] g.kind g.first) busy refl;
+  globals = one (BeginsTyped []) busy (inl refl);
   exceptions = record { built_in = refl; declared = seventh };
   hooks = one (λ (h : Hook). All (IsBodyOf whole h) h.bodies) seen_hook (one (IsBodyOf whole seen_hook) (record { n = 1 }) refl);
   bodies = λ f h k i j a b.

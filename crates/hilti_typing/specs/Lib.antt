@@ -1,4 +1,5 @@
 pub mod Context
+pub mod Defaults
 pub mod Examples
 pub mod Exceptions
 pub mod Facts

@@ -1,10 +1,11 @@
 -- Which parts of a program are typed.
-use Rattle.std.specs.Prelude.{◌≡◌, ℕ, ◌+◌, ◌^◌, ◌<◌, ◌≤◌, nat_eq, Bool, false, List, [], ◌∷◌}
+use Rattle.std.specs.Prelude.{◌≡◌, ◌⊎◌, ℕ, ◌+◌, ◌^◌, ◌<◌, ◌≤◌, nat_eq, Bool, false, List, [], ◌∷◌}
 use Rattle.std.specs.Prelude.{length, take, map, codes, bytes_eq, slice_get, position}
 use Rattle.std.specs.Prelude.{Option, Some, None, IfSome, IsSomeAnd}
 use Rattle.std.specs.List.{All, list_any}
 use Rattle.std.specs.Option.{option_map, option_and_then}
 use Rattle.hilti_base.specs.declared.names.FnId.{FnId}
+use Rattle.hilti_types.specs.declared.declared.Declared.{Declared}
 use Rattle.hilti_types.specs.declared.value_type.ValueType.{ValueType}
 use Rattle.hilti_types.specs.declared.value_type.ValueType.TheVariants as types
 use Rattle.hilti_table.specs.Rows.{ends_block}
@@ -20,6 +21,7 @@ use Rattle.hilti_parts.specs.declared.parts.Operand.{Operand}
 use Rattle.hilti_parts.specs.declared.parts.Variable.{Variable}
 use Rattle.hilti_parts.specs.Named.{named_function}
 use Rattle.hilti_typing.specs.Context.{Signature, Context, variable_type}
+use Rattle.hilti_typing.specs.Defaults.{default_of}
 use Rattle.hilti_typing.specs.Exceptions.{AreExceptions}
 use Rattle.hilti_typing.specs.Fits.{IsValue, IsTypedLine}
 
@@ -150,9 +152,13 @@ pub record AreShort (parts : Parts) : Type 0 where
   pub each : All IsShortFunction parts.functions
   pub bodies : All (λ (h : Hook). IsShort h.bodies) parts.hooks
 
+-- a global begins with a literal of its type, or with the default of its type
+abbrev pub BeginsTyped : List Declared → Global → Type 0
+BeginsTyped table g = IsValue table g.kind g.first ⊎ (g.first ≡ default_of g.kind)
+
 -- parts that are typed
 pub record AreTyped (parts : Parts) : Type 0 where
-  pub globals : All (λ (g : Global). IsValue parts.types g.kind g.first) parts.globals
+  pub globals : All (BeginsTyped parts.types) parts.globals
   pub exceptions : AreExceptions parts.exceptions
   pub hooks : All (λ (h : Hook). All (IsBodyOf parts h) h.bodies) parts.hooks
   pub bodies : (f : FnId) → BelongsOnce parts f
