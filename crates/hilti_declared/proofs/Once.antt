@@ -189,7 +189,7 @@ unique (x ∷ xs) f h k i j few first second = by (where_of x xs h k f first) (w
     by (Other apart own) (Behind b other there own_too) rest = let same = rest k b own own_too in absurd (eqb-false x.hook h apart (other ∙ sym same.0))
     by (Other apart own) (Other apart_too own_too) rest = rest k j own own_too
 
-hook_at : (bodies : List HookBody) (n : ℕ) (hooks : List LinkedHook) (k : ℕ) → slice_get (hooks_from bodies n hooks) k ≡ option_map (hook_of bodies (n + k)) (slice_get hooks k)
+pub hook_at : (bodies : List HookBody) (n : ℕ) (hooks : List LinkedHook) (k : ℕ) → slice_get (hooks_from bodies n hooks) k ≡ option_map (hook_of bodies (n + k)) (slice_get hooks k)
 unfolding hooks_from
 hook_at bodies n [] k = refl
 hook_at bodies n (h ∷ more) zero = ap (λ m. Some (hook_of bodies m h)) (omega arith)

@@ -25,7 +25,7 @@ at_seam : {X : Type 0} (before : List X) (x : X) (after : List X) → slice_get 
 at_seam [] x after = refl
 at_seam (y ∷ before) x after = at_seam before x after
 
-at_place : {X : Type 0} (all before : List X) (x : X) (after : List X) (n : ℕ) → all ≡ before ++ x ∷ after → n ≡ length before
+pub at_place : {X : Type 0} (all before : List X) (x : X) (after : List X) (n : ℕ) → all ≡ before ++ x ∷ after → n ≡ length before
     → slice_get all n ≡ Some x
 at_place all before x after n is at = ap (λ l. slice_get l n) is ∙ ap (slice_get (before ++ x ∷ after)) at ∙ at_seam before x after
 

@@ -14,7 +14,7 @@ use Rattle.hilti_resolve.specs.LiteralValues.{literal_value}
 use Rattle.hilti_link.specs.declared.tables.LinkedGlobal.{LinkedGlobal}
 use Rattle.hilti_link.specs.declared.tables.Site.{Site}
 use Rattle.hilti_parts.specs.declared.parts.Global.{Global}
-use Rattle.hilti_declared.specs.Defaults.{default_of}
+use Rattle.hilti_typing.specs.Defaults.{default_of}
 use Rattle.hilti_declared.specs.Sites.{item_at, meaning_at}
 
 -- the literal that a global is written with

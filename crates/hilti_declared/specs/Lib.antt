@@ -1,5 +1,4 @@
 pub mod Declaring
-pub mod Defaults
 pub mod Globals
 pub mod Hooks
 pub mod Sites

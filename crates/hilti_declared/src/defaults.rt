@@ -1,6 +1,6 @@
 //! The values that variables have by default.
 ghost use Rattle.std.specs.Prelude.{◌≡◌, IfOk, map};
-ghost use Rattle.hilti_declared.specs.Defaults.{default_of};
+ghost use Rattle.hilti_typing.specs.Defaults.{default_of};
 
 use hilti_addr::v4;
 use hilti_base::{Blob, NoMemory};

@@ -13,4 +13,4 @@ mod sites;
 mod turns;
 
 pub use declaring::declare;
-pub use sites::{item_at, number_at};
+pub use sites::{body_at, item_at, number_at};

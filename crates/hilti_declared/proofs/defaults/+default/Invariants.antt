@@ -1,5 +1,5 @@
 use Rattle.std.proofs.Common.{◌≡◌, map, take}
-use Rattle.hilti_declared.specs.Defaults.{default_of}
+use Rattle.hilti_typing.specs.Defaults.{default_of}
 use Rattle.hilti_declared.proofs.defaults.+default.Given as goal
 
 -- the values so far are those of the types so far
