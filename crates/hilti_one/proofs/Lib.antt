@@ -1,0 +1,5 @@
+pub mod Turns
+pub mod Ends
+pub mod Feeding
+pub mod Going
+pub mod Reports
