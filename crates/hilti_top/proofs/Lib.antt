@@ -1,10 +1,9 @@
 mod Exclusion
-mod Forms
-mod Named
 mod Reading
 mod Running
+mod Sending
 mod Shapes
-mod Sound
 mod Zips
-pub mod NotYet
+pub mod Named
 pub mod Opened
+pub mod Sound

@@ -1,42 +1,64 @@
--- The inputs that the words name, from what is known of files by their names.
-use Rattle.std.proofs.Common.{◌≡◌, ℕ, List, [], map, drop, Option, Some, refl, sym, ◌∙◌, ap, subst, slice_index_or}
+-- What is known of the files of a command, from what is known of files by their names.
+use Rattle.std.proofs.Common.{◌≡◌, ℕ, List, Option, refl, subst}
 use Rattle.hilti_base.specs.declared.names.Place.{Place}
 use Rattle.hilti_base.specs.declared.refusal.Refusal.{Refusal}
 use Rattle.hilti_base.specs.declared.refusal.Refusal.TheVariants as refusals
-use Rattle.hilti_outside.specs.Contents.{FileMap, content}
-use Rattle.hilti_pcap.specs.declared.packet.Packet.{Packet}
+use Rattle.hilti_outside.specs.Contents.{FileMap}
+use Rattle.hilti_parts.specs.declared.parts.Parts.{Parts}
 use Rattle.hilti_pcap.specs.declared.read.LeFault.{LeFault}
 use Rattle.hilti_pcap.specs.declared.read.LeFault.TheVariants as capture_faults
-use Rattle.hilti_pcap.specs.Capture.{HasPackets}
-use Rattle.hilti_prints.specs.declared.lines.Parameter.{Parameter}
 use Rattle.hilti_top.specs.declared.input.InputFault.TheVariants.{NotYet}
 use Rattle.hilti_top.specs.declared.modules.ModulesFault.TheVariants as modules_faults
 use Rattle.hilti_top.specs.InputFaults.{of_capture, of_refusal}
-use Rattle.hilti_top.specs.Inputs.{AreAccepted, IsCaptureOf, IsNoCapture}
-use Rattle.hilti_top.specs.ModuleTexts.{IsAccepted}
-use Rattle.hilti_top.specs.Words.{IsOne}
+use Rattle.hilti_top.specs.Inputs.{AreAccepted, AreRefused, IsCaptureRefused, IsOutput, RefusesCapture, Reports}
+use Rattle.hilti_top.specs.Words.{Asked, Asks, IsAsked, modules_in}
 
-pub accepted_from : (files : Option FileMap) (words : List (List ℕ)) (capture : List ℕ) (modules : List (List ℕ)) (lines : List (List Parameter))
-    → IsOne words capture modules → ((all : FileMap) → files ≡ Some all → IsAccepted (map (content all) modules) lines)
-    → AreAccepted files words lines
-accepted_from files words capture modules lines one is all told =
-    let named : drop 2 words ≡ modules = ap (drop 2) one.words_are in
-    subst (λ names. IsAccepted (map (content all) names) lines) (sym named) (is all told)
+pub refused_from : (files : Option FileMap) (words : List (List ℕ)) (asked : Asked) (modules : List (List ℕ)) (place : Place) (code : ℕ)
+    → IsAsked words asked → modules ≡ modules_in asked → AreRefused files modules place code
+    → Asks words (λ asked. AreRefused files (modules_in asked) place code)
+refused_from files words asked modules place code is named refused = record {
+  asked = asked;
+  is = is;
+  holds = subst (λ names. AreRefused files names place code) named refused;
+}
 
-pub capture_from : (files later : Option FileMap) (words : List (List ℕ)) (capture : List ℕ) (modules : List (List ℕ)) (packets : List Packet)
-    → IsOne words capture modules → later ≡ files → ((all : FileMap) → later ≡ Some all → HasPackets (content all capture) packets)
-    → IsCaptureOf files words packets
-capture_from files later words capture modules packets one same is all told =
-    let named : slice_index_or words 1 [] ≡ capture = ap (λ w. slice_index_or w 1 []) one.words_are in
-    subst (λ name. HasPackets (content all name) packets) (sym named) (is all (same ∙ told))
+pub accepted_from : (files : Option FileMap) (words : List (List ℕ)) (asked : Asked) (modules : List (List ℕ)) (parts : Parts)
+    → IsAsked words asked → modules ≡ modules_in asked → AreAccepted files modules parts
+    → Asks words (λ asked. AreAccepted files (modules_in asked) parts)
+accepted_from files words asked modules parts is named accepted = record {
+  asked = asked;
+  is = is;
+  holds = subst (λ names. AreAccepted files names parts) named accepted;
+}
 
-pub no_capture_from : (files later : Option FileMap) (words : List (List ℕ)) (capture : List ℕ) (modules : List (List ℕ))
-    → IsOne words capture modules → later ≡ files
-    → ((all : FileMap) → later ≡ Some all → (packets : List Packet) → HasPackets (content all capture) packets → ⊥)
-    → IsNoCapture files words
-no_capture_from files later words capture modules one same none all told packets has =
-    let named : slice_index_or words 1 [] ≡ capture = ap (λ w. slice_index_or w 1 []) one.words_are in
-    none all (same ∙ told) packets (subst (λ name. HasPackets (content all name) packets) named has)
+pub capture_refused_from : (files later : Option FileMap) (words : List (List ℕ)) (asked : Asked) (modules : List (List ℕ)) (parts : Parts)
+    → IsAsked words asked → modules ≡ modules_in asked → later ≡ files → AreAccepted files modules parts
+    → IsCaptureRefused later asked parts → Asks words (RefusesCapture files)
+capture_refused_from files later words asked modules parts is named same accepted refused = record {
+  asked = asked;
+  is = is;
+  holds = record {
+    parts = parts;
+    accepted = subst (λ names. AreAccepted files names parts) named accepted;
+    refused = subst (λ files. IsCaptureRefused files asked parts) same refused;
+  };
+}
+
+pub reports_from : (files later : Option FileMap) (words : List (List ℕ)) (asked : Asked) (modules : List (List ℕ)) (parts : Parts)
+    (text : List ℕ) (such : List ℕ → Type 0) → IsAsked words asked → modules ≡ modules_in asked → later ≡ files
+    → AreAccepted files modules parts → IsOutput later asked parts text → such text
+    → Asks words (λ asked. Reports files asked such)
+reports_from files later words asked modules parts text such is named same accepted output reported = record {
+  asked = asked;
+  is = is;
+  holds = record {
+    parts = parts;
+    text = text;
+    accepted = subst (λ names. AreAccepted files names parts) named accepted;
+    output = subst (λ files. IsOutput files asked parts text) same output;
+    reported = reported;
+  };
+}
 
 -- a capture that gives an input of no form has none itself
 pub capture_not_yet : (fault : LeFault) → of_capture fault ≡ NotYet → fault ≡ capture_faults.NotYet

@@ -1,5 +1,5 @@
 -- Files that are opened one after another.
-use Rattle.std.proofs.Common.{◌≡◌, ℕ, suc, ◌+◌, ◌<◌, ◌≤◌, List, [], ◌∷◌, ◌++◌, length, map, take, drop, get_or, Option, Some, None, inl, sym, ◌∙◌, ap, subst, arith, append_assoc}
+use Rattle.std.proofs.Common.{◌≡◌, ℕ, suc, ◌+◌, ◌<◌, ◌≤◌, List, [], ◌∷◌, ◌++◌, length, map, take, drop, get_or, Option, Some, None, inl, sym, ◌∙◌, ap, subst, arith, append_assoc, length-append}
 use Rattle.std.specs.List.{AllByRecursion}
 use Rattle.std.proofs.Math.Seq.{split_at}
 use Rattle.std.proofs.lemmas.List.{append-nil, take_more}
@@ -7,8 +7,8 @@ use Rattle.hilti_base.specs.declared.names.Place.{Place}
 use Rattle.hilti_outside.specs.Contents.{FileMap, Grows, WhereTold, content}
 use Rattle.hilti_outside.proofs.Pieces.{grows_more}
 use Rattle.hilti_top.specs.ModuleTexts.{IsShort, start_of}
-use Rattle.hilti_top.specs.Opening.{Names, OpensFront, OpensRefused, OpensUntil, files_of, modules_of}
-use Rattle.hilti_top.specs.Words.{IsOne}
+use Rattle.hilti_top.specs.Opening.{Names, OpensFront, OpensRefused, OpensSome, OpensUntil, OpensWhole}
+use Rattle.hilti_top.specs.Words.{Asked, Asked.Check, Asked.One, Asks, IsAsked, captures_in, files_in, modules_in}
 
 push_some : (front : List (List ℕ)) (name : List ℕ) → front ++ name ∷ [] ≡ [] → ⊥
 push_some [] name is = cc
@@ -65,39 +65,59 @@ whole_front before after names many opened = record {
   opened = opened;
 }
 
-files_named : (words : List (List ℕ)) (capture : List ℕ) (modules : List (List ℕ))
-    → IsOne words capture modules → files_of words ≡ modules ++ capture ∷ []
-files_named words capture modules one = ap files_of one.words_are
+-- a command has 1 to 16 modules
+pub some_modules : (words : List (List ℕ)) (asked : Asked) → IsAsked words asked → 1 ≤ length (modules_in asked)
+some_modules words (Check modules) is = is.modules_named.some
+some_modules words (One capture modules) is = is.modules_named.some
+
+pub few_modules : (words : List (List ℕ)) (asked : Asked) → IsAsked words asked → length (modules_in asked) ≤ 16
+few_modules words (Check modules) is = is.modules_named.few
+few_modules words (One capture modules) is = is.modules_named.few
 
 -- the modules and the capture
-pub all_opened : (before between after : Names) (words : List (List ℕ)) (capture : List ℕ) (modules : List (List ℕ))
-    → IsOne words capture modules → Grows before between modules → Grows between after (capture ∷ [])
-    → Grows before after (files_of words)
-all_opened before between after words capture modules one front last =
-    subst (λ names. Grows before after names) (sym (files_named words capture modules one))
-    (grows_more before between after modules (capture ∷ []) front last)
+grows_whole : (before between after : Names) (asked : Asked) (modules : List (List ℕ)) → modules ≡ modules_in asked
+    → Grows before between modules → Grows between after (captures_in asked) → Grows before after (files_in asked)
+grows_whole before between after asked modules named front last =
+    grows_more before between after (modules_in asked) (captures_in asked)
+    (subst (λ names. Grows before between names) named front) last
 
-pub all_front : (before between after : Names) (words : List (List ℕ)) (capture : List ℕ) (modules : List (List ℕ))
-    → IsOne words capture modules → Grows before between modules → Grows between after (capture ∷ [])
-    → OpensFront before after (files_of words)
-all_front before between after words capture modules one front last = record {
-  front = modules ++ capture ∷ [];
-  back = [];
-  split = files_named words capture modules one ∙ sym (append-nil (modules ++ capture ∷ []));
-  some = push_some modules capture;
-  opened = grows_more before between after modules (capture ∷ []) front last;
+pub all_opened : (before between after : Names) (words : List (List ℕ)) (asked : Asked) (modules : List (List ℕ))
+    → IsAsked words asked → modules ≡ modules_in asked → Grows before between modules → Grows between after (captures_in asked)
+    → OpensWhole words before after
+all_opened before between after words asked modules is named front last = record {
+  asked = asked;
+  is = is;
+  holds = grows_whole before between after asked modules named front last;
 }
 
+pub all_front : (before between after : Names) (words : List (List ℕ)) (asked : Asked) (modules : List (List ℕ))
+    → IsAsked words asked → modules ≡ modules_in asked → Grows before between modules → Grows between after (captures_in asked)
+    → OpensSome words before after
+all_front before between after words asked modules is named front last =
+    let many : 1 ≤ length (files_in asked) =
+    omega (arith, some_modules words asked is, length-append (modules_in asked) (captures_in asked)) in record {
+      asked = asked;
+      is = is;
+      holds = whole_front before after (files_in asked) many (grows_whole before between after asked modules named front last);
+    }
+
 -- a front of the modules is one of all files
-pub front_opened : (before after : Names) (words : List (List ℕ)) (capture : List ℕ) (modules : List (List ℕ))
-    → IsOne words capture modules → OpensFront before after modules → OpensFront before after (files_of words)
-front_opened before after words capture modules one some = record {
+front_of_all : (before after : Names) (asked : Asked) → OpensFront before after (modules_in asked)
+    → OpensFront before after (files_in asked)
+front_of_all before after asked some = record {
   front = some.front;
-  back = some.back ++ capture ∷ [];
-  split = files_named words capture modules one ∙ ap (λ names. names ++ capture ∷ []) some.split
-      ∙ append_assoc some.front some.back (capture ∷ []);
+  back = some.back ++ captures_in asked;
+  split = ap (λ names. names ++ captures_in asked) some.split ∙ append_assoc some.front some.back (captures_in asked);
   some = some.some;
   opened = some.opened;
+}
+
+pub front_opened : (before after : Names) (words : List (List ℕ)) (asked : Asked) (modules : List (List ℕ))
+    → IsAsked words asked → modules ≡ modules_in asked → OpensFront before after modules → OpensSome words before after
+front_opened before after words asked modules is named some = record {
+  asked = asked;
+  is = is;
+  holds = front_of_all before after asked (subst (λ names. OpensFront before after names) named some);
 }
 
 -- modules that are refused behind their opening
@@ -109,9 +129,11 @@ refused_behind files before after names texts place code opened told short = inl
   opened = opened;
 })
 
-pub refused_opened : (files : Option FileMap) (before after : Names) (words : List (List ℕ)) (capture : List ℕ) (modules : List (List ℕ)) (place : Place) (code : ℕ)
-    → IsOne words capture modules → OpensRefused files before after modules place code
-    → OpensRefused files before after (modules_of words) place code
-refused_opened files before after words capture modules place code one opened =
-    let named : modules_of words ≡ modules = ap modules_of one.words_are in
-    subst (λ names. OpensRefused files before after names place code) (sym named) opened
+pub refused_opened : (files : Option FileMap) (before after : Names) (words : List (List ℕ)) (asked : Asked) (modules : List (List ℕ))
+    (place : Place) (code : ℕ) → IsAsked words asked → modules ≡ modules_in asked → OpensRefused files before after modules place code
+    → Asks words (λ asked. OpensRefused files before after (modules_in asked) place code)
+refused_opened files before after words asked modules place code is named opened = record {
+  asked = asked;
+  is = is;
+  holds = subst (λ names. OpensRefused files before after names place code) named opened;
+}

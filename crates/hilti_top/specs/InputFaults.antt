@@ -7,13 +7,10 @@ use Rattle.hilti_outside.specs.declared.files.FileFault.{FileFault}
 use Rattle.hilti_outside.specs.declared.files.FileFault.TheVariants as file
 use Rattle.hilti_pcap.specs.declared.read.LeFault.{LeFault}
 use Rattle.hilti_pcap.specs.declared.read.LeFault.TheVariants as capture
-use Rattle.hilti_top.specs.declared.printing.FormFault.{FormFault}
-use Rattle.hilti_top.specs.declared.printing.FormFault.TheVariants as form
 use Rattle.hilti_top.specs.declared.input.InputFault.{InputFault}
 use Rattle.hilti_top.specs.declared.input.InputFault.TheVariants.{ReadFault, NotYet, NoMemory}
 use Rattle.hilti_top.specs.declared.modules.ModulesFault.{ModulesFault}
 use Rattle.hilti_top.specs.declared.modules.ModulesFault.TheVariants as modules
-use Rattle.hilti_top.specs.ModuleTexts.{start_of}
 
 abbrev pub of_file : FileFault → InputFault
 of_file file.Failed = ReadFault
@@ -23,10 +20,6 @@ of_file file.NoMemory = NoMemory
 abbrev pub of_capture : LeFault → InputFault
 of_capture capture.NotYet = NotYet
 of_capture capture.NoMemory = NoMemory
-
-abbrev pub of_form : FormFault → Refusal
-of_form form.NotYet = refusals.At (start_of 0) 60
-of_form form.NoMemory = refusals.NoMemory
 
 abbrev pub of_refusal : Refusal → ModulesFault
 of_refusal (refusals.At place code) = modules.At place code

@@ -1,10 +1,9 @@
 pub mod Absence
+pub mod Calls
 pub mod InputFaults
 pub mod Inputs
 pub mod ModuleTexts
 pub mod Opening
-pub mod Printing
 pub mod Report
-pub mod Run
 pub mod StatusText
 pub mod Words

@@ -1,13 +1,14 @@
 -- What the texts of modules are, in word order: accepted, or refused with a place and a code.
 use Rattle.std.specs.Prelude.{◌≡◌, ℕ, suc, ◌<◌, ◌≤◌, List, [], ◌∷◌, ◌++◌, length, Some, None}
+use Rattle.std.specs.Prelude.{Ok, Err}
 use Rattle.std.specs.List.{AllByRecursion}
 use Rattle.hilti_base.specs.declared.names.Place.{Place}
 use Rattle.hilti_base.specs.declared.refusal.Refusal.TheVariants.{At}
 use Rattle.hilti_module.specs.declared.module.Module.{Module}
 use Rattle.hilti_syntax.specs.Texts.{TextIsModule, TextRefused}
 use Rattle.hilti_link.specs.Refusals.{first_refusal}
-use Rattle.hilti_prints.specs.declared.lines.Parameter.{Parameter}
-use Rattle.hilti_top.specs.Printing.{Prints}
+use Rattle.hilti_parts.specs.declared.parts.Parts.{Parts}
+use Rattle.hilti_check.specs.Checking.{checked}
 
 -- a text isn't too long
 abbrev pub IsShort : List ℕ → Type 0
@@ -29,13 +30,14 @@ AreFrom file (text ∷ texts) (m ∷ modules) =
 abbrev pub AreModules : List (List ℕ) → List Module → Type 0
 AreModules texts modules = AreFrom 0 texts modules
 
--- no text is too long, each is a module, and the modules link and print these lists of parameters
-pub record IsAccepted (texts : List (List ℕ)) (lines : List (List Parameter)) : Type 0 where
+-- no text is too long, each is a module, the modules link, and the program that they are has these
+-- parts
+pub record IsAccepted (texts : List (List ℕ)) (parts : Parts) : Type 0 where
   pub modules : List Module
   pub short : AllByRecursion IsShort texts
   pub are : AreModules texts modules
   pub link : first_refusal modules ≡ None
-  pub prints : Prints modules lines
+  pub checked : checked modules ≡ Ok parts
 
 -- a text is too long, and none before it is: the answer is its start, with code 50
 pub record IsTooLong (texts : List (List ℕ)) (place : Place) (code : ℕ) : Type 0 where
@@ -64,19 +66,17 @@ pub record IsUnlinked (texts : List (List ℕ)) (place : Place) (code : ℕ) : T
   pub are : AreModules texts modules
   pub refused : first_refusal modules ≡ Some (At place code)
 
--- all texts are modules that link, which aren't of the form that runs: the answer is the start of
--- the first, with code 60
-pub record IsNotYet (texts : List (List ℕ)) (place : Place) (code : ℕ) : Type 0 where
+-- all texts are modules that link, which the checker refuses
+pub record IsUnchecked (texts : List (List ℕ)) (place : Place) (code : ℕ) : Type 0 where
   pub modules : List Module
   pub are : AreModules texts modules
   pub link : first_refusal modules ≡ None
-  pub other : (lines : List (List Parameter)) → Prints modules lines → ⊥
-  pub place_is : place ≡ start_of 0
-  pub code_is : code ≡ 60
+  pub refused : checked modules ≡ Err (At place code)
 
 -- texts are refused, for the first cause that there is
 pub data IsRefused (texts : List (List ℕ)) (place : Place) (code : ℕ) : Type 0 where
   Length : IsTooLong texts place code → IsRefused texts place code
   Reading : AllByRecursion IsShort texts → IsUnread texts place code → IsRefused texts place code
   Linking : AllByRecursion IsShort texts → IsUnlinked texts place code → IsRefused texts place code
-  Form : AllByRecursion IsShort texts → IsNotYet texts place code → IsRefused texts place code
+  Checking :
+      AllByRecursion IsShort texts → IsUnchecked texts place code → IsRefused texts place code

@@ -1,24 +1,16 @@
 -- Which files a command opens: those of its modules in word order, and then that of its capture.
-use Rattle.std.specs.Prelude.{◌≡◌, ◌≢◌, ℕ, suc, List, [], ◌∷◌, ◌++◌, ◌⊎◌, map, take, drop, Option}
-use Rattle.std.specs.Prelude.{slice_index_or}
+use Rattle.std.specs.Prelude.{◌≡◌, ◌≢◌, ℕ, suc, List, [], ◌++◌, ◌⊎◌, map, take, Option}
 use Rattle.std.specs.List.{AllByRecursion}
 use Rattle.hilti_base.specs.declared.names.Place.{Place}
 use Rattle.hilti_outside.specs.Contents.{FileMap, Grows, WhereTold, content}
 use Rattle.hilti_top.specs.declared.status.Status.{Status}
 use Rattle.hilti_top.specs.declared.status.Status.TheVariants as status
 use Rattle.hilti_top.specs.ModuleTexts.{IsShort}
+use Rattle.hilti_top.specs.Words.{Asks, files_in, modules_in}
 
 -- the names that were opened, where they are told
 abbrev pub Names : Type 0
 Names = Option (List (List ℕ))
-
--- the names of the modules
-abbrev pub modules_of : List (List ℕ) → List (List ℕ)
-modules_of words = drop 2 words
-
--- the names of all files: the modules, and then the capture
-abbrev pub files_of : List (List ℕ) → List (List ℕ)
-files_of words = modules_of words ++ slice_index_or words 1 [] ∷ []
 
 -- a front of the names was opened, and at least one
 pub record OpensFront (before after : Names) (names : List (List ℕ)) : Type 0 where
@@ -46,14 +38,21 @@ abbrev pub OpensRefused
 OpensRefused files before after modules place code =
     OpensAll files before after modules ⊎ OpensUntil before after modules place code
 
+-- all files of a command were opened
+abbrev pub OpensWhole : List (List ℕ) → Names → Names → Type 0
+OpensWhole words before after = Asks words (λ asked. Grows before after (files_in asked))
+
+-- a front of the files of a command was opened
+abbrev pub OpensSome : List (List ℕ) → Names → Names → Type 0
+OpensSome words before after = Asks words (λ asked. OpensFront before after (files_in asked))
+
 -- what was opened, by the answer
 abbrev pub OpensFor : Status → List (List ℕ) → Option FileMap → Names → Names → Type 0
 OpensFor status.Usage words files before after = after ≡ before
 OpensFor (status.BadModule place code) words files before after =
-    OpensRefused files before after (modules_of words) place code
-OpensFor (status.BadCapture at code) words files before after =
-    Grows before after (files_of words)
-OpensFor status.Done words files before after = Grows before after (files_of words)
-OpensFor status.WriteFault words files before after = Grows before after (files_of words)
-OpensFor status.ReadFault words files before after = OpensFront before after (files_of words)
-OpensFor status.NoMemory words files before after = OpensFront before after (files_of words)
+    Asks words (λ asked. OpensRefused files before after (modules_in asked) place code)
+OpensFor (status.BadCapture at code) words files before after = OpensWhole words before after
+OpensFor status.Done words files before after = OpensWhole words before after
+OpensFor status.WriteFault words files before after = OpensWhole words before after
+OpensFor status.ReadFault words files before after = OpensSome words before after
+OpensFor status.NoMemory words files before after = OpensSome words before after

@@ -1,31 +1,32 @@
--- The report of a run whose calls are those of `packet`, one for each packet of the capture, on
--- thread 0.
-use Rattle.std.specs.Prelude.{ℕ, List, [], ◌∷◌, ◌++◌, length, codes}
+-- What the commands write: the report of a run, and that modules are accepted.
+use Rattle.std.specs.Prelude.{ℕ, List, ◌++◌, length, codes}
 use Rattle.std.specs.Fmt.{decimal}
-use Rattle.std.specs.List.{flat_map}
+use Rattle.hilti_tree.specs.declared.call.Call.{Call}
+use Rattle.hilti_core.specs.Core.{Core}
+use Rattle.hilti_parts.specs.declared.parts.Parts.{Parts}
 use Rattle.hilti_pcap.specs.declared.packet.Packet.{Packet}
-use Rattle.hilti_prints.specs.declared.lines.Parameter.{Parameter}
-use Rattle.hilti_prints.specs.Calls.{printed_text}
+use Rattle.hilti_machine.specs.Segments.{effect_of}
+use Rattle.hilti_machine.specs.Threads.{Facts}
+use Rattle.hilti_one.specs.Alone.{RanAlone}
+use Rattle.hilti_log.specs.Reports.{IsReport}
+use Rattle.hilti_top.specs.Calls.{calls_of}
 
--- what one print line prints, on a line behind two spaces
-abbrev pub line : Packet → List Parameter → List ℕ
-line packet operands = codes "  " ++ printed_text packet operands ++ codes "\n"
+-- a program, each of whose calls may run 1,000,000 instructions
+abbrev pub facts_of : Parts → Facts
+facts_of parts = record { parts = parts; fuel = 1000000 }
 
--- what the call for one packet prints
-abbrev pub call_lines : List (List Parameter) → Packet → List ℕ
-call_lines lines packet = flat_map (line packet) lines
+-- one worker ran these calls of a program, of which at most 1,000,000 may start, and the text is
+-- the report of it
+pub record ReportsCalls (parts : Parts) (calls : List Call) (text : List ℕ) : Type 0 where
+  pub core : Core
+  pub ran : RanAlone (effect_of (facts_of parts)) calls 1000000 core
+  pub report : IsReport core text
 
--- a thread that ran no call has no line
-abbrev pub thread_lines : List (List Parameter) → List Packet → List ℕ
-thread_lines lines [] = []
-thread_lines lines (packet ∷ packets) =
-    codes "thread 0: " ++ decimal (length (packet ∷ packets)) ++ codes " calls\n"
-    ++ flat_map (call_lines lines) (packet ∷ packets)
+-- the text is the report of a program's run over packets
+abbrev pub IsReportOf : Parts → List Packet → List ℕ → Type 0
+IsReportOf parts packets text = ReportsCalls parts (calls_of parts packets) text
 
--- each call is one segment
-abbrev pub total : ℕ → List ℕ
-total calls =
-    codes "total: " ++ decimal calls ++ codes " calls, " ++ decimal calls ++ codes " segments\n"
-
-abbrev pub report : List (List Parameter) → List Packet → List ℕ
-report lines packets = thread_lines lines packets ++ total (length packets)
+-- how many functions and hook bodies the program of accepted modules has
+abbrev pub accepted_text : Parts → List ℕ
+accepted_text parts =
+    codes "accepted: " ++ decimal (length parts.functions) ++ codes " functions\n"

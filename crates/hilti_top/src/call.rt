@@ -2,29 +2,30 @@ ghost use Rattle.std.specs.Prelude.{◌≡◌, ◌≢◌, ℕ, List};
 ghost use Rattle.hilti_base.specs.declared.names.Place.{Place as APlace};
 ghost use Rattle.hilti_outside.specs.Contents.{Grows, GrowsByFront};
 ghost use Rattle.hilti_outside.specs.Faults.{Rose};
-ghost use Rattle.hilti_prints.specs.declared.lines.Parameter.{Parameter};
-ghost use Rattle.hilti_top.specs.Inputs.{AreAccepted, AreRefused, IsNoCapture, Reports};
+ghost use Rattle.hilti_parts.specs.declared.parts.Parts.{Parts};
+ghost use Rattle.hilti_top.specs.Inputs.{AreAccepted, AreRefused, RefusesCapture, Reports};
 ghost use Rattle.hilti_top.specs.Opening.{OpensFor};
-ghost use Rattle.hilti_top.specs.Words.{IsCommand};
+ghost use Rattle.hilti_top.specs.Words.{Asks, IsCommand, modules_in};
 
-use crate::input::{InputFault, read_capture};
+use crate::input::InputFault;
 use crate::modules::{ModulesFault, read_modules};
-use crate::report::write_report;
+use crate::output::output_of;
 use crate::status::Status;
 use crate::words::read_words;
 use hilti_base::Blob;
 use hilti_outside::{Files, Sink, write_all};
 use std::alloc::Global;
 
-/// The code of a form of capture that isn't read yet.
+/// The code of a capture that isn't accepted yet.
 const NOT_YET: u32 = 60;
 
 /// Does what the words of the command line say, without the program's own name.
 ///
 /// The words are judged first; then the files of the modules are read in word order, then their texts, then they are
-/// linked, and then the form that runs today is asked for; then the capture is read. Where a refusal or a fault comes,
-/// nothing after it is done, and nothing is written. The output is one text. Nothing else is told by `NoMemory`, which
-/// may come wherever memory is taken.
+/// linked, and then checked. For `check` that is all; for `one` the capture is read then, and the program is run over
+/// its packets. Where a refusal or a fault comes, nothing after it is done, and nothing is written. The output is one
+/// text. Nothing else is told by `NoMemory`, which may come wherever memory is taken.
+#[tactic(auto, using(crate::proofs::Opened::refused_opened, crate::proofs::Opened::all_opened))]
 pub fn hilti_call<F: Files, S: Sink>(
     alloc: Global,
     words: &[Blob],
@@ -42,24 +43,26 @@ pub fn hilti_call<F: Files, S: Sink>(
     // What is refused, and why.
     ensures bad_module { (place : APlace) (code : ℕ) →
         result ≡ Status.BadModule place code →
-        AreRefused (F.files files.old) words.now place code }
+        Asks words.now (λ asked.
+        AreRefused (F.files files.old) (modules_in asked) place code) }
     ensures bad_capture { (at code : ℕ) →
         result ≡ Status.BadCapture at code →
-        IsNoCapture (F.files files.old) words.now }
+        Asks words.now (RefusesCapture (F.files files.old)) }
     ensures bad_capture_at { (at code : ℕ) →
         result ≡ Status.BadCapture at code →
         (at ≡ 0) × (code ≡ 60) }
     ensures module_first { (at code : ℕ) →
         result ≡ Status.BadCapture at code →
-        (lines : List (List Parameter)) × AreAccepted (F.files files.old) words.now lines }
+        (parts : Parts) × Asks words.now (λ asked.
+        AreAccepted (F.files files.old) (modules_in asked) parts) }
 
     // What is written.
     ensures done { result ≡ Status.Done →
-        Reports (F.files files.old) words.now
-        (Grows (S.written sink.old) (S.written sink.new)) }
+        Asks words.now (λ asked. Reports (F.files files.old) asked
+        (Grows (S.written sink.old) (S.written sink.new))) }
     ensures write_fault { result ≡ Status.WriteFault →
-        Reports (F.files files.old) words.now
-        (GrowsByFront (S.written sink.old) (S.written sink.new)) }
+        Asks words.now (λ asked. Reports (F.files files.old) asked
+        (GrowsByFront (S.written sink.old) (S.written sink.new))) }
     ensures unwritten { result ≢ Status.Done →
         result ≢ Status.WriteFault →
         S.written sink.new ≡ S.written sink.old }
@@ -73,17 +76,17 @@ pub fn hilti_call<F: Files, S: Sink>(
     ensures writes_heard { result ≢ Status.WriteFault → S.faults sink.new ≡ S.faults sink.old }
     ensures files { F.files files.new ≡ F.files files.old }
 {
-    let Some(one) = read_words(words) else {
+    let Some(command) = read_words(words) else {
         return Status::Usage;
     };
-    let lines = match read_modules(alloc, files, one.modules) {
-        Ok(lines) => lines,
+    let program = match read_modules(alloc, files, command.modules()) {
+        Ok(program) => program,
         Err(ModulesFault::ReadFault) => return Status::ReadFault,
         Err(ModulesFault::At { place, code }) => return Status::BadModule { place, code },
         Err(ModulesFault::NoMemory) => return Status::NoMemory,
     };
-    let packets = match read_capture(alloc, files, one.capture) {
-        Ok(packets) => packets,
+    let text = match output_of(alloc, files, command, program) {
+        Ok(text) => text,
         Err(InputFault::ReadFault) => return Status::ReadFault,
         Err(InputFault::NoMemory) => return Status::NoMemory,
         Err(InputFault::NotYet) => {
@@ -92,9 +95,6 @@ pub fn hilti_call<F: Files, S: Sink>(
                 code: NOT_YET,
             };
         }
-    };
-    let Ok(text) = write_report(alloc, &lines, &packets) else {
-        return Status::NoMemory;
     };
     match write_all(sink, text.bytes()) {
         Ok(()) => Status::Done,

@@ -4,9 +4,10 @@ ghost use Rattle.std.specs.List.{All};
 ghost use Rattle.hilti_outside.specs.Contents.{Grows, WhereTold, content};
 ghost use Rattle.hilti_outside.specs.Faults.{Rose};
 ghost use Rattle.hilti_pcap.specs.Capture.{HasPackets};
-ghost use Rattle.hilti_prints.specs.Calls.{IsShortPacket};
 ghost use Rattle.hilti_top.specs.Absence.{NoneIs};
+ghost use Rattle.hilti_top.specs.Calls.{IsShortPacket};
 
+use hilti_base::NoMemory;
 use hilti_outside::{FileFault, Files, read_file};
 use hilti_pcap::{LeFault, Packets, read_le};
 use std::alloc::Global;
@@ -18,9 +19,20 @@ const CAPTURE_BYTES: usize = 1_073_741_824;
 pub enum InputFault {
     /// Its file couldn't be opened or read.
     ReadFault,
-    /// It has no form that is accepted today.
+    /// It has no form that is accepted today, or more calls come of it than may start.
     NotYet,
     NoMemory,
+}
+
+impl From<NoMemory> for InputFault {
+    ghost use Rattle.std.specs.Prelude.{◌≡◌};
+    ghost use Rattle.hilti_top.specs.declared.input.InputFault.TheVariants as faults;
+
+    ghost from_gives = { λ _ fault. fault ≡ faults.NoMemory };
+
+    fn from(_error: NoMemory) -> InputFault {
+        InputFault::NoMemory
+    }
 }
 
 impl From<FileFault> for InputFault {

@@ -3,15 +3,15 @@ ghost use Rattle.std.specs.Prelude.{◌≡◌, ℕ, List};
 ghost use Rattle.std.specs.List.{AllByRecursion};
 ghost use Rattle.hilti_base.specs.declared.names.Place.{Place};
 ghost use Rattle.hilti_module.specs.declared.module.Module.{Module};
-ghost use Rattle.hilti_prints.specs.declared.lines.Parameter.{Parameter};
+ghost use Rattle.hilti_parts.specs.declared.parts.Parts.{Parts};
 ghost use Rattle.hilti_top.specs.ModuleTexts.{AreModules, IsAccepted, IsRefused, IsShort};
 ghost use Rattle.hilti_top.specs.ModuleTexts.{IsTooLong, IsUnread};
-ghost use Rattle.hilti_top.specs.Printing.{Prints};
+ghost use Rattle.hilti_top.specs.Words.{Asked, IsAsked};
 
-/// Modules print one list of lines at most.
-pub fn one_list()
-    ensures { (modules : List Module) (lines others : List (List Parameter)) →
-        Prints modules lines → Prints modules others → lines ≡ others }
+/// Words ask for one thing.
+pub fn one_command()
+    ensures { (words : List (List ℕ)) (asked other : Asked) →
+        IsAsked words asked → IsAsked words other → asked ≡ other }
 {}
 
 /// Texts that aren't too long aren't refused for their length, and texts that are modules aren't refused by the lexer or
@@ -22,20 +22,21 @@ pub fn read_or_refused()
     ensures reading { (texts : List (List ℕ)) (modules : List Module) (place : Place) (code : ℕ) →
         AreModules texts modules → ¬ (IsUnread texts place code) }
 {
-    hilti_lexer::laws::read_or_refused();
-    hilti_lexer::laws::one_reading();
-    hilti_refusals::laws::never_both();
+    hilti_reading::laws::never_both();
 }
 
-/// No texts both are accepted and refused, and texts that are accepted print one list of lines.
+/// Texts have one answer: no texts both are accepted and refused, texts that are accepted are one program, and texts
+/// that are refused are refused at one place, with one code.
 pub fn accepted_or_refused()
-    ensures never_both { (texts : List (List ℕ)) (lines : List (List Parameter)) →
-        (place : Place) (code : ℕ) → IsAccepted texts lines → ¬ (IsRefused texts place code) }
-    ensures one_list { (texts : List (List ℕ)) (lines others : List (List Parameter)) →
-        IsAccepted texts lines → IsAccepted texts others → lines ≡ others }
+    ensures never_both { (texts : List (List ℕ)) (parts : Parts) (place : Place) (code : ℕ) →
+        IsAccepted texts parts → ¬ (IsRefused texts place code) }
+    ensures one_program { (texts : List (List ℕ)) (parts others : Parts) →
+        IsAccepted texts parts → IsAccepted texts others → parts ≡ others }
+    ensures one_refusal { (texts : List (List ℕ)) (place elsewhere : Place) (code other : ℕ) →
+        IsRefused texts place code → IsRefused texts elsewhere other →
+        (place ≡ elsewhere) × (code ≡ other) }
 {
-    hilti_lexer::laws::read_or_refused();
-    hilti_lexer::laws::one_reading();
-    hilti_refusals::laws::never_both();
+    hilti_reading::laws::never_both();
+    hilti_reading::laws::one_refusal();
     hilti_reading::laws::one_module();
 }

@@ -2,11 +2,11 @@
 #![tactic(auto)]
 
 mod call;
+mod calls;
 mod input;
 pub mod laws;
 mod modules;
-mod printing;
-mod report;
+mod output;
 mod run;
 mod status;
 #[cfg(test)]
@@ -14,5 +14,4 @@ mod tests;
 mod words;
 
 pub use call::hilti_call;
-pub use hilti_prints::Parameter;
 pub use status::Status;

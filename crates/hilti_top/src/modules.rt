@@ -1,20 +1,21 @@
-//! The modules of a command, from the names of their files to what they print.
+//! The modules of a command, from the names of their files to the program that they are.
 ghost use Rattle.std.specs.Prelude.{◌≡◌, ◌≢◌, ◌<◌, ◌≤◌, ℕ, [], ◌∷◌, Err, IfOk, OnErr, length, map};
 ghost use Rattle.std.specs.List.{AllByRecursion};
 ghost use Rattle.hilti_base.specs.declared.names.Place.{Place as APlace};
+ghost use Rattle.hilti_code.specs.Runnable.{IsTypedProgram};
 ghost use Rattle.hilti_outside.specs.Contents.{Grows, WhereTold, content};
 ghost use Rattle.hilti_outside.specs.Faults.{Rose};
 ghost use Rattle.hilti_top.specs.ModuleTexts.{AreModules, IsAccepted, IsRefused, IsShort};
 ghost use Rattle.hilti_top.specs.ModuleTexts.{IsTooLong, IsUnread, start_of};
 ghost use Rattle.hilti_top.specs.InputFaults.{WhereRefused};
+ghost use Rattle.hilti_top.specs.Inputs.{AreAccepted, AreRefused};
 ghost use Rattle.hilti_top.specs.Opening.{OpensFront, OpensRefused, OpensUntil};
-ghost use Rattle.hilti_prints.specs.Lines.{ArePrintLines};
 
-use crate::printing::{FormFault, printed_by_modules};
 use hilti_base::{Blob, Names, NoMemory, Place, Refusal};
+use hilti_check::check;
 use hilti_link::{Modules, link};
 use hilti_outside::{FileFault, Files, read_file};
-use hilti_prints::PrintLines;
+use hilti_program::Program;
 use hilti_syntax::read_module;
 use std::alloc::Global;
 
@@ -22,9 +23,6 @@ const MODULE_BYTES: usize = 1_048_576;
 
 /// The code of a module that is too long.
 const TOO_LONG: u32 = 50;
-
-/// The code of modules that aren't of the form that runs today.
-const NOT_YET: u32 = 60;
 
 /// Why modules aren't accepted.
 #[derive(Clone, Copy, Debug, PartialEq, Eq)]
@@ -57,23 +55,6 @@ impl From<Refusal> for ModulesFault {
         match refusal {
             Refusal::At { place, code } => ModulesFault::At { place, code },
             Refusal::NoMemory => ModulesFault::NoMemory,
-        }
-    }
-}
-
-impl From<FormFault> for Refusal {
-    ghost use Rattle.std.specs.Prelude.{◌≡◌};
-    ghost use Rattle.hilti_top.specs.InputFaults.{of_form};
-
-    ghost from_gives = { λ fault refusal. refusal ≡ of_form fault };
-
-    fn from(fault: FormFault) -> Refusal {
-        match fault {
-            FormFault::NotYet => Refusal::At {
-                place: start_of(0),
-                code: NOT_YET,
-            },
-            FormFault::NoMemory => Refusal::NoMemory,
         }
     }
 }
@@ -166,46 +147,44 @@ fn read_trees(alloc: Global, texts: &Names) -> Result<Modules, Refusal>
     Ok(modules)
 }
 
-/// What the modules of texts print.
-fn printed_by_texts(alloc: Global, texts: &Names) -> Result<PrintLines, Refusal>
+/// The program that the modules of texts are.
+fn read_program(alloc: Global, texts: &Names) -> Result<Program, Refusal>
     requires some { 1 ≤ length texts.now }
     requires few { length texts.now ≤ 16 }
     requires short { AllByRecursion IsShort texts.now }
-    ensures lines { IfOk result (λ lines. IsAccepted texts.now lines) }
-    ensures fit { IfOk result (λ lines. ArePrintLines lines) }
+    ensures program { IfOk result (λ program. IsAccepted texts.now program) }
+    ensures typed { IfOk result IsTypedProgram }
     ensures refused { (place : APlace) (code : ℕ) →
         result ≡ Err (Refusal.At place code) → IsRefused texts.now place code }
 {
     let modules = read_trees(alloc, texts)?;
     let linked = link(alloc, modules)?;
-    Ok(printed_by_modules(alloc, linked.modules().as_slice())?)
+    check(alloc, linked)
 }
 
-/// What the modules in files print. The files are read in order, then each text is read, and then all are linked: the
-/// first refusal answers.
+/// The program that the modules in files are. The files are read in order, then each text is read, then all are linked,
+/// and then they are checked: the first refusal answers.
 #[tactic(auto, using(crate::proofs::Opened::whole_front))]
 pub fn read_modules<F: Files>(
     alloc: Global,
     files: &mut F,
     names: &[Blob],
-) -> Result<PrintLines, ModulesFault>
+) -> Result<Program, ModulesFault>
     requires some { 1 ≤ length names.now }
     requires few { length names.now ≤ 16 }
     ensures files { F.files files.new ≡ F.files files.old }
     ensures opened { IfOk result
-        (λ lines. Grows (F.opened files.old) (F.opened files.new) names.now) }
+        (λ program. Grows (F.opened files.old) (F.opened files.new) names.now) }
     ensures opened_refused { WhereRefused result
         (OpensRefused (F.files files.old) (F.opened files.old) (F.opened files.new) names.now) }
     ensures opened_front { OpensFront (F.opened files.old) (F.opened files.new) names.now }
-    ensures lines { IfOk result (λ lines.
-        WhereTold (F.files files.old) (λ all. IsAccepted (map (content all) names.now) lines)) }
-    ensures fit { IfOk result (λ lines. ArePrintLines lines) }
-    ensures refused { WhereRefused result (λ place code.
-        WhereTold (F.files files.old) (λ all. IsRefused (map (content all) names.now) place code)) }
+    ensures program { IfOk result (λ program. AreAccepted (F.files files.old) names.now program) }
+    ensures typed { IfOk result IsTypedProgram }
+    ensures refused { WhereRefused result (AreRefused (F.files files.old) names.now) }
     ensures failed { result ≡ Err ModulesFault.ReadFault →
         Rose (F.faults files.old) (F.faults files.new) }
     ensures heard { result ≢ Err ModulesFault.ReadFault → F.faults files.new ≡ F.faults files.old }
 {
     let texts = read_texts(alloc, files, names)?;
-    Ok(printed_by_texts(alloc, &texts)?)
+    Ok(read_program(alloc, &texts)?)
 }

@@ -54,9 +54,10 @@ fn words(alloc: Global, words: &[&[u8]]) -> Result<Names, NoMemory> {
     Ok(all)
 }
 
-/// Runs `one` over a capture and modules, and gives the status and what was written.
-fn run_all(
+/// Runs a command, whose first words are these, on a capture and modules, and gives the status and what was written.
+fn run_words(
     alloc: Global,
+    front: &[&[u8]],
     capture: &[u8],
     modules: &[&[u8]],
     outside: Outside<'_>,
@@ -64,7 +65,7 @@ fn run_all(
     let failing_reads = numbers(alloc, outside.failing_reads)?;
     let mut files = MemFiles::new(alloc, outside.read.max(1), failing_reads);
     files.put_file(b"c", capture)?;
-    let mut words = words(alloc, &[b"one", b"c"])?;
+    let mut words = words(alloc, front)?;
     for (module, name) in modules.iter().zip(b"mno") {
         let name = Blob::of(alloc, &[*name])?;
         files.put_file(name.bytes(), module)?;
@@ -77,6 +78,16 @@ fn run_all(
     Ok((status, Blob::of(alloc, sink.written())?))
 }
 
+/// Runs `one` over a capture and modules.
+fn run_all(
+    alloc: Global,
+    capture: &[u8],
+    modules: &[&[u8]],
+    outside: Outside<'_>,
+) -> Result<(Status, Blob), NoMemory> {
+    run_words(alloc, &[b"one", b"c"], capture, modules, outside)
+}
+
 /// Runs `one` over a capture and one module.
 fn run(
     alloc: Global,
@@ -85,6 +96,39 @@ fn run(
     outside: Outside<'_>,
 ) -> Result<(Status, Blob), NoMemory> {
     run_all(alloc, capture, &[module], outside)
+}
+
+/// A module with these items, and a `packet` with this body.
+fn module_of(alloc: Global, items: &[u8], body: &[u8]) -> Result<Vec<u8>, AllocError> {
+    let mut text = joined(alloc, b"module Main\n", items)?;
+    text.extend_from_slice(b"void packet(time t, bytes d) {\n")?;
+    text.extend_from_slice(body)?;
+    text.extend_from_slice(b"}\n")?;
+    Ok(text)
+}
+
+/// What `one` writes for a module with these items and this `packet`, over a capture of two packets.
+fn written_by(alloc: Global, items: &[u8], body: &[u8]) -> Result<(Status, Blob), NoMemory> {
+    let module = module_of(alloc, items, body)?;
+    let one = joined(alloc, &HEADER, &RECORD)?;
+    let two = joined(alloc, one.as_slice(), &RECORD)?;
+    run(alloc, two.as_slice(), module.as_slice(), SURE)
+}
+
+/// What `check` answers for a module with these items and this `packet`, and what it writes. There is no capture.
+fn checked(alloc: Global, items: &[u8], body: &[u8]) -> Result<(Status, Blob), NoMemory> {
+    let module = module_of(alloc, items, body)?;
+    run_words(alloc, &[b"check"], b"", &[module.as_slice()], SURE)
+}
+
+/// A module is refused at this line and column of its text.
+fn bad_module(line: u32, column: u32, code: u32) -> Status {
+    let place = Place {
+        file: 0,
+        line,
+        column,
+    };
+    Status::BadModule { place, code }
 }
 
 #[test]
@@ -167,6 +211,237 @@ fn says_how_it_ended(rt: HostRuntime) -> Result<(), Fail> {
     for (status, number, text) in texts {
         assert_eq!(rt; status.number(), number);
         assert_eq!(rt; status.text(alloc)?.bytes(), text);
+    }
+    Ok(())
+}
+
+/// A function calls itself and hands a number back; a loop counts.
+#[test]
+fn runs_calls_and_loops(rt: HostRuntime) -> Result<(), Fail> {
+    let alloc = rt.alloc();
+    let (status, written) = written_by(
+        alloc,
+        b"int<64> five(int<64> n) {
+  local bool more
+  local int<64> next
+  more = int.lt 4 n
+  if.else more @enough @again
+@enough:
+  return.result n
+@again:
+  next = int.add n 1
+  next = call five (next)
+  return.result next
+}
+",
+        b"  local int<64> x
+  x = call five (0)
+  print x
+  return.void
+",
+    )?;
+    assert_eq!(rt; status, Status::Done);
+    assert_eq!(rt;
+        written.bytes(),
+        b"thread 0: 2 calls\n  5\n  5\ntotal: 2 calls, 2 segments\n".as_slice()
+    );
+    let (status, written) = written_by(
+        alloc,
+        b"",
+        b"  local int<8> n
+  local bool more
+  jump @next
+@next:
+  n = int.add n 100
+  print n
+  more = int.gt n 99
+  if.else more @next @end
+@end:
+  return.void
+",
+    )?;
+    assert_eq!(rt; status, Status::Done);
+    assert_eq!(rt;
+        written.bytes(),
+        b"thread 0: 2 calls
+  100
+  200
+  44
+  100
+  200
+  44
+total: 2 calls, 2 segments
+"
+            .as_slice()
+    );
+    Ok(())
+}
+
+/// A raise is caught in the caller, or ends the call; a call may be suspended; and its fuel may be spent.
+#[test]
+fn ends_calls(rt: HostRuntime) -> Result<(), Fail> {
+    let alloc = rt.alloc();
+    let (status, written) = written_by(
+        alloc,
+        b"type Odd = exception
+global bool seen
+void fails() {
+  exception.throw Odd \"why\"
+}
+",
+        b"  local string e
+  local int<8> x
+  if.else seen @second @first
+@first catch ValueError @second e catch Exception @caught e:
+  call fails ()
+  return.void
+@caught:
+  seen = assign True
+  print \"caught\" e
+  return.void
+@second:
+  x = int.div 1 0
+  return.void
+",
+    )?;
+    assert_eq!(rt; status, Status::Done);
+    assert_eq!(rt;
+        written.bytes(),
+        b"thread 0: 2 calls
+  caught why
+  ! uncaught DivisionByZero \"\" in Main::packet
+total: 2 calls, 2 segments
+"
+            .as_slice()
+    );
+    let (status, written) = written_by(
+        alloc,
+        b"",
+        b"  print \"a\"
+  yield
+  print \"b\"
+  return.void
+",
+    )?;
+    assert_eq!(rt; status, Status::Done);
+    assert_eq!(rt;
+        written.bytes(),
+        b"thread 0: 2 calls\n  a\n  b\n  a\n  b\ntotal: 2 calls, 4 segments\n".as_slice()
+    );
+    let (status, written) = written_by(alloc, b"", b"  jump @a\n@a:\n  jump @a\n")?;
+    assert_eq!(rt; status, Status::Done);
+    assert_eq!(rt;
+        written.bytes(),
+        b"thread 0: 2 calls
+  ! out of fuel in Main::packet
+  ! out of fuel in Main::packet
+total: 2 calls, 2 segments
+"
+            .as_slice()
+    );
+    Ok(())
+}
+
+/// `Main::init` runs before the first call, `Main::done` behind the last packet, and globals and objects are kept.
+#[test]
+fn keeps_globals(rt: HostRuntime) -> Result<(), Fail> {
+    let alloc = rt.alloc();
+    let items = b"type Counted = struct { int<64> n, bool odd }
+global ref<Counted> kept
+global int<64> calls = 7
+void done() {
+  print \"done\" calls
+  return.void
+}
+void init() {
+  print \"init\"
+  kept = new Counted
+  struct.set kept n 40
+  return.void
+}
+";
+    let body = b"  local int<64> n
+  local bool set
+  calls = int.add calls 1
+  n = struct.get kept n
+  set = struct.is_set kept odd
+  print n set
+  n = int.add n 1
+  struct.set kept n n
+  return.void
+";
+    let (status, written) = written_by(alloc, items, body)?;
+    assert_eq!(rt; status, Status::Done);
+    assert_eq!(rt;
+        written.bytes(),
+        b"thread 0: 3 calls
+  init
+  40 False
+  41 False
+  done 9
+total: 3 calls, 3 segments
+"
+            .as_slice()
+    );
+    // Without packets `done` is the first call.
+    let module = module_of(alloc, items, body)?;
+    let (status, written) = run(alloc, &HEADER, module.as_slice(), SURE)?;
+    assert_eq!(rt; status, Status::Done);
+    assert_eq!(rt;
+        written.bytes(),
+        b"thread 0: 1 calls\n  init\n  done 7\ntotal: 1 calls, 1 segments\n".as_slice()
+    );
+    Ok(())
+}
+
+#[test]
+fn checks_modules(rt: HostRuntime) -> Result<(), Fail> {
+    let alloc = rt.alloc();
+    let (status, written) = run_words(alloc, &[b"check"], b"", &[MODULE], SURE)?;
+    assert_eq!(rt; status, Status::Done);
+    assert_eq!(rt; written.bytes(), b"accepted: 1 functions\n".as_slice());
+    // Hook bodies count too.
+    let hook = b"hook h()\nhook h() {\n  return.void\n}\n";
+    let (status, written) = checked(alloc, hook, b"  return.void\n")?;
+    assert_eq!(rt; status, Status::Done);
+    assert_eq!(rt; written.bytes(), b"accepted: 2 functions\n".as_slice());
+    // The first fault, an unknown name, before the first instruction that isn't built.
+    let late = b"  local ref<list<bool>> l\n  l = new list<bool>\n  print nope\n  return.void\n";
+    let (status, written) = checked(alloc, b"", late)?;
+    assert_eq!(rt; status, bad_module(5, 9, 21));
+    assert_eq!(rt; written.len(), 0);
+    let to_come = b"  local ref<list<bool>> l\n  l = new list<bool>\n  return.void\n";
+    let (status, written) = checked(alloc, b"", to_come)?;
+    assert_eq!(rt; status, bad_module(4, 7, 60));
+    assert_eq!(rt; written.len(), 0);
+    let (status, _written) = checked(alloc, b"", b"  print 1\n")?;
+    assert_eq!(rt; status, bad_module(4, 1, 33));
+    let (status, _written) = checked(alloc, b"", b"  t = int.add t 1\n")?;
+    assert_eq!(rt; status, bad_module(3, 15, 30));
+    let (status, _written) = run_words(alloc, &[b"check"], b"", &[b""], SURE)?;
+    assert_eq!(rt; status, bad_module(1, 1, 10));
+    Ok(())
+}
+
+#[test]
+fn knows_its_words(rt: HostRuntime) -> Result<(), Fail> {
+    let alloc = rt.alloc();
+    let fronts: [&[&[u8]]; 5] = [
+        &[],
+        &[b"check", b"--"],
+        &[b"check", b"-c"],
+        &[b"one", b""],
+        &[b"run", b"c"],
+    ];
+    for front in fronts {
+        let (status, written) = run_words(alloc, front, b"", &[MODULE], SURE)?;
+        assert_eq!(rt; status, Status::Usage);
+        assert_eq!(rt; written.len(), 0);
+    }
+    let alone: [&[&[u8]]; 2] = [&[b"check"], &[b"one", b"c"]];
+    for front in alone {
+        let (status, _written) = run_words(alloc, front, b"", &[], SURE)?;
+        assert_eq!(rt; status, Status::Usage);
     }
     Ok(())
 }

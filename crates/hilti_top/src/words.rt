@@ -1,18 +1,41 @@
 //! The words of the command line, without the program's own name.
-ghost use Rattle.std.specs.Prelude.{◌≡◌, ◌↔◌, IsTrue, IfSome, IsNone};
+ghost use Rattle.std.specs.Prelude.{◌≡◌, ◌↔◌, ◌∷◌, IsTrue, IfSome, IsNone, codes};
 ghost use Rattle.std.specs.List.{AllByRecursion};
-ghost use Rattle.hilti_top.specs.Words.{IsName, IsOne, IsCommand};
+ghost use Rattle.hilti_top.specs.Words.{AreModuleNames, Asked, IsAsked, IsCommand, IsName};
+ghost use Rattle.hilti_top.specs.Words.{asked_by, modules_in};
 
 use hilti_base::Blob;
 
 /// How many modules a command may have.
 const MODULES: usize = 16;
 
-/// The command `one`: a capture and 1 to 16 modules, by the names of their files.
+/// A command, with the names of its files. It has 1 to 16 modules.
 #[derive(Clone, Copy, Debug)]
-pub struct One<'a> {
-    pub capture: &'a [u8],
-    pub modules: &'a [Blob],
+pub enum Command<'a> {
+    /// Says whether modules are accepted.
+    Check {
+        modules: &'a [Blob],
+    },
+    /// Runs the program of modules over a capture, by one worker.
+    One {
+        capture: &'a [u8],
+        modules: &'a [Blob],
+    },
+}
+
+impl<'a> Command<'a> {
+    /// The names of the modules.
+    pub fn modules(self) -> &'a [Blob]
+        ensures { result.now ≡ modules_in (asked_by self.entry) }
+    {
+        match self {
+            Command::Check { modules } => modules,
+            Command::One {
+                capture: _,
+                modules,
+            } => modules,
+        }
+    }
 }
 
 /// A name is UTF-8, isn't empty and doesn't begin with `-`.
@@ -34,22 +57,57 @@ fn are_names(words: &[Blob]) -> bool
     true
 }
 
-/// The command that the words are; `None` exactly where they are none.
-pub fn read_words(words: &[Blob]) -> Option<One<'_>>
-    ensures command { IfSome result (λ one. IsOne words.now one.capture.now one.modules.now) }
-    ensures usage { IsNone result → IsCommand words.now → ⊥ }
+/// Whether words are the names of 1 to 16 modules.
+fn are_module_names(words: &[Blob]) -> bool
+    ensures { IsTrue result ↔ AreModuleNames words.now }
 {
-    let [command, capture, modules @ ..] = words else {
+    !words.is_empty() && words.len() <= MODULES && are_names(words)
+}
+
+/// The command `check` with these words behind it; `None` exactly where that's none.
+fn check_of(modules: &[Blob]) -> Option<Command<'_>>
+    ensures command { IfSome result
+        (λ command. IsAsked (codes "check" ∷ modules.now) (asked_by command)) }
+    ensures none { IsNone result →
+        (asked : Asked) → ¬ (IsAsked (codes "check" ∷ modules.now) asked) }
+{
+    if are_module_names(modules) {
+        Some(Command::Check { modules })
+    } else {
+        None
+    }
+}
+
+/// The command `one` with these words behind it; `None` exactly where that's none.
+fn one_of(words: &[Blob]) -> Option<Command<'_>>
+    ensures command { IfSome result
+        (λ command. IsAsked (codes "one" ∷ words.now) (asked_by command)) }
+    ensures none { IsNone result →
+        (asked : Asked) → ¬ (IsAsked (codes "one" ∷ words.now) asked) }
+{
+    let [capture, modules @ ..] = words else {
         return None;
     };
     let capture = capture.bytes();
-    if command.bytes() == b"one".as_slice()
-        && is_name(capture)
-        && !modules.is_empty()
-        && modules.len() <= MODULES
-        && are_names(modules)
-    {
-        Some(One { capture, modules })
+    if is_name(capture) && are_module_names(modules) {
+        Some(Command::One { capture, modules })
+    } else {
+        None
+    }
+}
+
+/// The command that the words are; `None` exactly where they are none.
+pub fn read_words(words: &[Blob]) -> Option<Command<'_>>
+    ensures command { IfSome result (λ command. IsAsked words.now (asked_by command)) }
+    ensures usage { IsNone result → IsCommand words.now → ⊥ }
+{
+    let [command, behind @ ..] = words else {
+        return None;
+    };
+    if command.bytes() == b"check".as_slice() {
+        check_of(behind)
+    } else if command.bytes() == b"one".as_slice() {
+        one_of(behind)
     } else {
         None
     }

@@ -5,4 +5,4 @@ pub returns-clause-lengths : goal.returns-clause-lengths
 returns-clause-lengths c = not_long
 
 pub returns-clause-reading : goal.returns-clause-reading
-returns-clause-reading c = not_unread c.read_or_refused.ensures c.one_reading.ensures c.never_both.ensures
+returns-clause-reading c = not_unread c.never_both.ensures

@@ -7,15 +7,15 @@ use Rattle.hilti_top.proofs.Named.{refused_as}
 use Rattle.hilti_top.proofs.Opened.{refused_behind}
 use Rattle.hilti_top.proofs.modules.read_modules.Goals as goal
 
-pub returns-in_err-printed_by_texts-clause-refused : goal.returns-in_err-printed_by_texts-clause-refused
-returns-in_err-printed_by_texts-clause-refused g c = λ place code is all told.
-    let failed = err_from_is_err_and c.from_residual-in_err-printed_by_texts.result c.from_residual-in_err-printed_by_texts.ensures.1 in
-    let refused : of_refusal c.in_err-printed_by_texts.field-0.0 ≡ At place code = cc (failed.1, failed.2, is) in
-    let is_refused = c.in_err-printed_by_texts.ensures.refused place code (ap Err (refused_as c.in_err-printed_by_texts.field-0.0 place code refused)) in
+pub returns-in_err-read_program-clause-refused : goal.returns-in_err-read_program-clause-refused
+returns-in_err-read_program-clause-refused g c = λ place code is all told.
+    let failed = err_from_is_err_and c.from_residual-in_err-read_program.result c.from_residual-in_err-read_program.ensures.1 in
+    let refused : of_refusal c.in_err-read_program.field-0.0 ≡ At place code = cc (failed.1, failed.2, is) in
+    let is_refused = c.in_err-read_program.ensures.refused place code (ap Err (refused_as c.in_err-read_program.field-0.0 place code refused)) in
     subst (λ texts. IsRefused texts place code) (c.in_ok-texts.ensures.texts all told) is_refused
 
-pub returns-in_err-printed_by_texts-clause-opened_refused :
-    goal.returns-in_err-printed_by_texts-clause-opened_refused
-returns-in_err-printed_by_texts-clause-opened_refused g c = λ place code is.
+pub returns-in_err-read_program-clause-opened_refused :
+    goal.returns-in_err-read_program-clause-opened_refused
+returns-in_err-read_program-clause-opened_refused g c = λ place code is.
     refused_behind (g.F.Files.files c.args.files.now) (g.F.Files.opened c.args.files.now) (g.F.Files.opened c.read_texts.new.files)
     c.args.names.now c.in_ok-texts.texts place code c.in_ok-texts.ensures.opened c.in_ok-texts.ensures.texts c.in_ok-texts.ensures.short

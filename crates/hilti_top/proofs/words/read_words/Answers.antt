@@ -1,15 +1,18 @@
-use Rattle.std.proofs.Common.{◌≡◌, rules, codes}
-use Rattle.hilti_top.proofs.Shapes.{behind_two}
+use Rattle.std.proofs.Common.{◌≡◌, ◌-◌, ◌∷◌, ◌∙◌, sym, ap, subst, rules, IfSome, codes, length, take, drop}
+use Rattle.hilti_top.specs.Words.{IsAsked, asked_by}
+use Rattle.hilti_top.proofs.Shapes.{behind_one}
 use Rattle.hilti_top.proofs.words.read_words.Goals as goal
 
-pub returns-then-are_names-clause-command : goal.returns-then-are_names-clause-command
-returns-then-are_names-clause-command c =
-    let words = behind_two c.args.words.now c.command-item.result c.capture-item.result c.in-len2-up.len_at_least c.command-item.is c.capture-item.is in
-    let one : c.command-item.result ≡ codes "one" = search rules in
-    record {
-      words_are = cc (words, one, c.bytes-capture.ensures);
-      capture_named = search rules;
-      modules_named = search rules;
-      some = grind rules;
-      few = c.if-modules-le-MODULES.true;
-    }
+pub returns-then-eq-clause-command : goal.returns-then-eq-clause-command
+returns-then-eq-clause-command c =
+    let words = behind_one c.args.words.now c.command-item.result c.in-len1-up.len_at_least c.command-item.is in
+    let named : c.command-item.result ≡ codes "check" = search rules in
+    subst (λ words. IfSome c.check_of.result (λ command. IsAsked words (asked_by command)))
+    (sym (words ∙ ap (λ word. word ∷ take (length c.args.words.now - 1) (drop 1 c.args.words.now)) named)) c.check_of.ensures.command
+
+pub returns-then-eq-2-clause-command : goal.returns-then-eq-2-clause-command
+returns-then-eq-2-clause-command c =
+    let words = behind_one c.args.words.now c.command-item.result c.in-len1-up.len_at_least c.command-item.is in
+    let named : c.command-item.result ≡ codes "one" = search rules in
+    subst (λ words. IfSome c.one_of.result (λ command. IsAsked words (asked_by command)))
+    (sym (words ∙ ap (λ word. word ∷ take (length c.args.words.now - 1) (drop 1 c.args.words.now)) named)) c.one_of.ensures.command

@@ -1,4 +1,0 @@
-pub mod Lines
-pub mod Program
-pub mod Calls
-pub mod Laws
