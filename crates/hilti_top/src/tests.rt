@@ -361,11 +361,11 @@ void init() {
 }
 ";
     let body = b"  local int<64> n
-  local bool set
+  local bool has
   calls = int.add calls 1
   n = struct.get kept n
-  set = struct.is_set kept odd
-  print n set
+  has = struct.is_set kept odd
+  print n has
   n = int.add n 1
   struct.set kept n n
   return.void
