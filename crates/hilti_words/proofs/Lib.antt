@@ -1,0 +1,6 @@
+mod Finishing
+mod NextWord
+mod Pieces
+mod Refused
+mod Shapes
+mod Single
