@@ -3,5 +3,7 @@ pub mod Nexts
 pub mod Turns
 pub mod Ends
 pub mod Givings
+pub mod Weights
+pub mod Wholes
 pub mod Lifts
 pub mod Beginnings

@@ -17,7 +17,7 @@ abbrev pub TellsRest : Option FileMap → Option (List ℕ) → Type 0
 TellsRest files rest = (all : FileMap) → files ≡ Some all → IsSome rest
 
 -- a relation of what is unread holds where the files are told
-at_told : (fs : Option FileMap) (r r' : Option (List ℕ)) (all : FileMap) (P : List ℕ → List ℕ → Type 0) → fs ≡ Some all → TellsRest fs r
+pub at_told : (fs : Option FileMap) (r r' : Option (List ℕ)) (all : FileMap) (P : List ℕ → List ℕ → Type 0) → fs ≡ Some all → TellsRest fs r
     → Related P r r' → P (unwrap_or r []) (unwrap_or r' [])
 at_told fs None r' all P e told h = absurd (let none = told all e in cc)
 at_told fs (Some x) None all P e told h = absurd h

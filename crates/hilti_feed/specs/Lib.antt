@@ -6,3 +6,4 @@ pub mod Progress
 pub mod Making
 pub mod Feeds
 pub mod Fronts
+pub mod Wholes

@@ -1,5 +1,5 @@
 -- The calls that a feed will still give, and how its capture ends.
-use Rattle.std.specs.Prelude.{◌≡◌, ◌≢◌, ◌⊎◌, ◌↔◌, ℕ, Bool, true, false, List, [], IsTrue}
+use Rattle.std.specs.Prelude.{◌≡◌, ◌≢◌, ◌⊎◌, ◌↔◌, ℕ, ◌+◌, Bool, true, false, List, [], IsTrue}
 use Rattle.std.specs.Prelude.{Option, Some, None, is_some, ◌||◌}
 use Rattle.hilti_base.specs.declared.names.FnId.{FnId}
 use Rattle.hilti_pcap.specs.Endings.{CaptureEnding, Whole, Cut, Bad}
@@ -9,7 +9,7 @@ use Rattle.hilti_feed.specs.declared.tail.Outcome.{Outcome}
 use Rattle.hilti_feed.specs.declared.tail.Outcome.TheVariants as outcomes
 use Rattle.hilti_feed.specs.declared.progress.Progress.{Progress}
 use Rattle.hilti_feed.specs.Calls.{calls_of, done_call}
-use Rattle.hilti_feed.specs.Tails.{reading_of}
+use Rattle.hilti_feed.specs.Tails.{reading_of, weight}
 
 -- the function that is called at the end, unless it was
 abbrev pub owed : Bool → Option FnId → Option FnId
@@ -40,6 +40,15 @@ ending_after outcomes.ReadFault reading = reading.ending
 
 abbrev pub ending_left : Progress → List ℕ → CaptureEnding
 ending_left progress rest = ending_after progress.outcome (reading_of progress.tail rest)
+
+-- what the call at the end weighs, which is more than any tail does, until it is given
+abbrev pub done_weight : Bool → ℕ
+done_weight true = 0
+done_weight false = 2147483650
+
+-- a measure of the calls that are left: it falls where a call is given
+abbrev pub calls_weight : Progress → ℕ
+calls_weight progress = done_weight progress.done_given + weight progress.tail
 
 -- whether a failed read ended it, and whether it was read to its end
 abbrev pub is_lost : Outcome → Bool

@@ -1,5 +1,5 @@
-ghost use Rattle.std.specs.Prelude.{◌≡◌, IfOk, IfErr};
-ghost use Rattle.hilti_outside.specs.Contents.{WhereTold, content};
+ghost use Rattle.std.specs.Prelude.{◌≡◌, [], ◌∷◌, IfOk, IfErr};
+ghost use Rattle.hilti_outside.specs.Contents.{Grows, WhereTold, content};
 ghost use Rattle.hilti_feed.specs.declared.feed.FeedFault.TheVariants as feed_faults;
 ghost use Rattle.hilti_feed.specs.Calls.{IsCallOf};
 ghost use Rattle.hilti_feed.specs.Fronts.{IsBadBy, CausesFault};
@@ -75,7 +75,7 @@ impl Model for Origin {
 #[derive(Debug, Drop)]
 pub struct OpenedCapture {
     name: Blob,
-    progress: Progress,
+    pub(crate) progress: Progress,
 }
 
 /// Opens a capture and reads its header.
@@ -97,6 +97,7 @@ pub fn open_capture<F: Files>(
         (capture.progress.packet ≡ packet) × (capture.progress.done ≡ done)) }
     ensures reading { IfOk result (λ capture. capture.progress.outcome ≡ Outcome.Reading) }
     ensures files { F.files files.new ≡ F.files files.old }
+    ensures opened { Grows (F.opened files.old) (F.opened files.new) (name.now ∷ []) }
     ensures faults { CausesFault result (F.faults files.old) (F.faults files.new) }
 {
     files.open_file(name)?;

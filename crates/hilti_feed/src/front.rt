@@ -23,6 +23,7 @@ pub fn read_front<F: Files>(alloc: Global, files: &mut F) -> Result<Blob, FeedFa
     ensures short { IfOk result (λ front. length front ≤ 24 + 16384) }
     ensures bad { IfErr result (λ fault. (capture : List ℕ) → IsBadBy capture fault) }
     ensures files { F.files files.new ≡ F.files files.old }
+    ensures opened { F.opened files.new ≡ F.opened files.old }
     ensures faults { CausesFault result (F.faults files.old) (F.faults files.new) }
 {
     let mut front = Blob::new(alloc);

@@ -8,6 +8,8 @@ mod progress;
 mod tail;
 #[cfg(test)]
 mod tests;
+mod whole;
 
 pub use feed::{CaptureFeed, FeedFault, OpenedCapture, Origin, open_capture};
 pub use tail::Outcome;
+pub use whole::{CaptureCalls, CaptureEnd, capture_calls};

@@ -56,6 +56,7 @@ pub fn next_packet<F: Files>(files: &mut F, tail: &mut Tail) -> Result<Found, No
     ensures found { IfOk result IsFound }
     ensures lighter { IfOk result (λ found. IsPacket found → weight tail.new < weight tail.old) }
     ensures files { F.files files.new ≡ F.files files.old }
+    ensures opened { F.opened files.new ≡ F.opened files.old }
     ensures faults { MatchResult result
         (λ found. HasFault found (F.faults files.old) (F.faults files.new))
         (λ _. F.faults files.new ≡ F.faults files.old) }
@@ -98,6 +99,7 @@ fn refill<F: Files>(files: &mut F, tail: &mut Tail) -> Result<Option<Outcome>, N
     ensures over { IfOk result (λ ended. IfSome ended (λ outcome. outcome ≢ Outcome.Reading)) }
     ensures lighter { IfOk result (λ ended. IfNone ended (weight tail.new < weight tail.old)) }
     ensures files { F.files files.new ≡ F.files files.old }
+    ensures opened { F.opened files.new ≡ F.opened files.old }
     ensures faults { MatchResult result
         (λ ended. MatchOption ended (F.faults files.new ≡ F.faults files.old)
         (λ outcome. HasCause outcome (F.faults files.old) (F.faults files.new)))
@@ -143,6 +145,7 @@ fn read_piece<F: Files>(files: &mut F, tail: &mut Tail) -> Result<(), PieceFault
         (F.rest files.old) (F.rest files.new)) }
     ensures lighter { OnOk result (weight tail.new < weight tail.old) }
     ensures files { F.files files.new ≡ F.files files.old }
+    ensures opened { F.opened files.new ≡ F.opened files.old }
     ensures faults { CausesFault result (F.faults files.old) (F.faults files.new) }
 {
     let mut piece = [0; PIECE];

@@ -1,9 +1,11 @@
-ghost use Rattle.std.specs.Prelude.{◌≡◌, ◌≢◌, ◌∷◌, true, IfOk, OnOk, IfSome, IfNone, OnSome};
+ghost use Rattle.std.specs.Prelude.{◌≡◌, ◌≢◌, ◌<◌, ◌∷◌, true, IfOk, OnOk, OnErr};
+ghost use Rattle.std.specs.Prelude.{IfSome, IfNone, OnSome};
 ghost use Rattle.std.specs.Prelude.{MatchResult};
 ghost use Rattle.hilti_feed.specs.Known.{Related};
 ghost use Rattle.hilti_feed.specs.Calls.{packet_call, IsCallOf};
 ghost use Rattle.hilti_feed.specs.Faults.{HasCause, HasCauseIn};
-ghost use Rattle.hilti_feed.specs.Progress.{calls_left, ending_left, is_over, clean, owed_after};
+ghost use Rattle.hilti_feed.specs.Progress.{calls_left, calls_weight, ending_left, is_over};
+ghost use Rattle.hilti_feed.specs.Progress.{clean, owed_after};
 ghost use Rattle.hilti_feed.specs.Progress.{Skipped, SameMaking};
 ghost use Rattle.hilti_feed.specs.Progress.{IsOverBy, IsSkippedBy, IsClosing, IsClosed, IsEnded};
 ghost use Rattle.hilti_feed.specs.Tails.{Agrees, reading_of};
@@ -28,7 +30,7 @@ pub struct Progress {
 }
 
 /// The next call; `None` where the capture was read to its end, or a read failed.
-#[tactic(auto, using(crate::proofs::Givings::packet_now, crate::proofs::Givings::packet_ending, crate::proofs::Givings::closing_now, crate::proofs::Givings::closing_ending, crate::proofs::Givings::closed_now, crate::proofs::Givings::closed_ending, crate::proofs::Givings::over_already, crate::proofs::Givings::ended_already))]
+#[tactic(auto, using(crate::proofs::Givings::packet_now, crate::proofs::Givings::packet_ending, crate::proofs::Givings::closing_now, crate::proofs::Givings::closing_ending, crate::proofs::Givings::closed_now, crate::proofs::Givings::closed_ending, crate::proofs::Weights::packet_lighter, crate::proofs::Weights::closing_lighter, crate::proofs::Givings::over_already, crate::proofs::Givings::ended_already))]
 pub fn next_call<F: Files>(
     alloc: Global,
     files: &mut F,
@@ -46,11 +48,15 @@ pub fn next_call<F: Files>(
         (calls_left progress.old rest) (calls_left progress.new rest'))
         (F.rest files.old) (F.rest files.new))) }
     ensures over { IfOk result (λ next. IfNone next (is_over progress.new.outcome ≡ true)) }
+    ensures lighter { IfOk result (λ next. OnSome next
+        (calls_weight progress.new < calls_weight progress.old)) }
+    ensures no_memory { OnErr result (progress.new.outcome ≡ progress.old.outcome) }
     ensures ending { OnOk result (Related
         (λ rest rest'. ending_left progress.new rest' ≡ ending_left progress.old rest)
         (F.rest files.old) (F.rest files.new)) }
     ensures made { SameMaking progress.old progress.new }
     ensures files { F.files files.new ≡ F.files files.old }
+    ensures opened { F.opened files.new ≡ F.opened files.old }
     ensures faults { HasCauseIn progress.old.outcome progress.new.outcome
         (F.faults files.old) (F.faults files.new) }
 {
@@ -79,6 +85,7 @@ pub fn skip_calls<F: Files>(files: &mut F, progress: &mut Progress) -> Result<bo
         (F.rest files.old) (F.rest files.new)) }
     ensures made { SameMaking progress.old progress.new }
     ensures files { F.files files.new ≡ F.files files.old }
+    ensures opened { F.opened files.new ≡ F.opened files.old }
     ensures faults { HasCauseIn progress.old.outcome progress.new.outcome
         (F.faults files.old) (F.faults files.new) }
 {
@@ -108,6 +115,7 @@ fn skip_packets<F: Files>(files: &mut F, tail: &mut Tail) -> Result<(Outcome, bo
         (F.rest files.old) (F.rest files.new)) }
     ensures over { IfOk result (λ end. end.0 ≢ Outcome.Reading) }
     ensures files { F.files files.new ≡ F.files files.old }
+    ensures opened { F.opened files.new ≡ F.opened files.old }
     ensures faults { MatchResult result
         (λ end. HasCause end.0 (F.faults files.old) (F.faults files.new))
         (λ _. F.faults files.new ≡ F.faults files.old) }

@@ -104,3 +104,22 @@ fn tells_failed_reads(rt: HostRuntime) -> Result<(), Fail> {
     }
     Ok(())
 }
+
+#[test]
+fn reads_a_cut_capture_whole(rt: HostRuntime) -> Result<(), Fail> {
+    let alloc = rt.alloc();
+    let mut bytes = Vec::from_slice(alloc, &HEADER)?;
+    bytes.extend_from_slice(&RECORD)?;
+    bytes.extend_from_slice(&RECORD[..3])?;
+    let mut files = files_of(alloc, &bytes, 0)?;
+    match capture_calls(alloc, &mut files, b"c", PACKET, Some(DONE)) {
+        Ok(CaptureCalls { calls, end }) => {
+            assert_eq!(rt; calls.len(), 2);
+            assert!(rt; matches!(calls.get(0), Some(call) if is_packet(call)));
+            assert!(rt; matches!(calls.get(1), Some(call) if call.function == DONE));
+            assert_eq!(rt; end, CaptureEnd::Cut { at: 42 });
+        }
+        Err(_) => assert!(rt; false),
+    }
+    Ok(())
+}

@@ -8,6 +8,7 @@ invariant-pieces g l =
     Fronts l.front (g.F.Files.rest l.fn.files) (g.F.Files.rest l.files)
     × (length l.front ≤ 16408)
     × (g.F.Files.files l.files ≡ g.F.Files.files l.fn.files)
+    × (g.F.Files.opened l.files ≡ g.F.Files.opened l.fn.files)
     × (g.F.Files.faults l.files ≡ g.F.Files.faults l.fn.files)
 
 abbrev pub decreases-pieces : goal.decreases-pieces

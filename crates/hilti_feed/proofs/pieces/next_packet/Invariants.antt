@@ -8,6 +8,7 @@ invariant-pieces g l =
     SameReading l.fn.tail l.tail (g.F.Files.rest l.fn.files) (g.F.Files.rest l.files)
     × (weight l.tail ≤ weight l.fn.tail)
     × (g.F.Files.files l.files ≡ g.F.Files.files l.fn.files)
+    × (g.F.Files.opened l.files ≡ g.F.Files.opened l.fn.files)
     × (g.F.Files.faults l.files ≡ g.F.Files.faults l.fn.files)
 
 abbrev pub decreases-pieces : goal.decreases-pieces

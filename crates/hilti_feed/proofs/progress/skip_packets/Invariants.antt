@@ -10,6 +10,7 @@ invariant-packets g l =
     Related (λ rest rest'. Skipped l.more (reading_of l.fn.tail rest) (reading_of l.tail rest'))
     (g.F.Files.rest l.fn.files) (g.F.Files.rest l.files)
     × (g.F.Files.files l.files ≡ g.F.Files.files l.fn.files)
+    × (g.F.Files.opened l.files ≡ g.F.Files.opened l.fn.files)
     × (g.F.Files.faults l.files ≡ g.F.Files.faults l.fn.files)
 
 abbrev pub decreases-packets : goal.decreases-packets
