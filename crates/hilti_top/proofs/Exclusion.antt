@@ -10,20 +10,12 @@ use Rattle.hilti_check.specs.Checking.{checked}
 use Rattle.hilti_reading.specs.OneModule.{OneModule}
 use Rattle.hilti_reading.specs.Refusals.{NeverBoth, OneRefusal}
 use Rattle.hilti_top.specs.ModuleTexts.{AreFrom, AreModules, IsAccepted, IsRefused, IsRefused.Length, IsRefused.Reading, IsRefused.Linking, IsRefused.Checking, IsShort, IsTooLong, IsUnchecked, IsUnlinked, IsUnread, start_of}
-use Rattle.hilti_top.specs.Words.{Asked, Asked.Check, Asked.One, IsAsked}
 use Rattle.hilti_top.proofs.Reading.{are_at}
 use Rattle.hilti_top.proofs.Zips.{all_at}
 
 -- the same place and code
 abbrev pub AreSame : Place → Place → ℕ → ℕ → Type 0
 AreSame place elsewhere code other = (place ≡ elsewhere) × (code ≡ other)
-
-pub one_command : (words : List (List ℕ)) (asked other : Asked) → IsAsked words asked → IsAsked words other → asked ≡ other
-one_command words (Check modules) (Check others) is also = ap Check (ap (drop 1) (sym is.words_are ∙ also.words_are))
-one_command words (Check modules) (One capture others) is also = absurd cc (is.words_are, also.words_are)
-one_command words (One capture modules) (Check others) is also = absurd cc (is.words_are, also.words_are)
-one_command words (One capture modules) (One another others) is also =
-    let same = sym is.words_are ∙ also.words_are in cc
 
 pub not_unread : NeverBoth → (texts : List (List ℕ)) (modules : List Module) (place : Place) (code : ℕ)
     → AreModules texts modules → IsUnread texts place code → ⊥

@@ -8,7 +8,7 @@ use Rattle.hilti_outside.specs.Contents.{FileMap, Grows, WhereTold, content}
 use Rattle.hilti_outside.proofs.Pieces.{grows_more}
 use Rattle.hilti_top.specs.ModuleTexts.{IsShort, start_of}
 use Rattle.hilti_top.specs.Opening.{Names, OpensFront, OpensRefused, OpensSome, OpensUntil, OpensWhole}
-use Rattle.hilti_top.specs.Words.{Asked, Asked.Check, Asked.One, Asks, IsAsked, captures_in, files_in, modules_in}
+use Rattle.hilti_words.specs.Words.{Asked, Asked.Check, Asked.One, Asks, IsAsked, captures_in, files_in, modules_in}
 
 push_some : (front : List (List ℕ)) (name : List ℕ) → front ++ name ∷ [] ≡ [] → ⊥
 push_some [] name is = cc
@@ -68,11 +68,11 @@ whole_front before after names many opened = record {
 -- a command has 1 to 16 modules
 pub some_modules : (words : List (List ℕ)) (asked : Asked) → IsAsked words asked → 1 ≤ length (modules_in asked)
 some_modules words (Check modules) is = is.modules_named.some
-some_modules words (One capture modules) is = is.modules_named.some
+some_modules words (One limits capture modules) is = is.modules_named.some
 
 pub few_modules : (words : List (List ℕ)) (asked : Asked) → IsAsked words asked → length (modules_in asked) ≤ 16
 few_modules words (Check modules) is = is.modules_named.few
-few_modules words (One capture modules) is = is.modules_named.few
+few_modules words (One limits capture modules) is = is.modules_named.few
 
 -- the modules and the capture
 grows_whole : (before between after : Names) (asked : Asked) (modules : List (List ℕ)) → modules ≡ modules_in asked

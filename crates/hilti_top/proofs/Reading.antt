@@ -1,7 +1,7 @@
 -- Reading texts one after another: what is known of the first of them, and of the one that is refused.
-use Rattle.std.proofs.Common.{◌≡◌, ℕ, suc, ◌+◌, ◌<◌, ◌≤◌, List, [], ◌∷◌, ◌++◌, length, map, get_or, take, drop, refl, sym, subst, ap, ◌∙◌, arith}
+use Rattle.std.proofs.Common.{◌≡◌, ℕ, suc, ◌+◌, ◌<◌, List, [], ◌∷◌, ◌++◌, length, map, get_or, take, drop, refl, sym, subst, ap, ◌∙◌, arith}
 use Rattle.std.proofs.Math.Seq.{split_at}
-use Rattle.std.proofs.lemmas.List.{take_more, length-take-le, map-append}
+use Rattle.std.proofs.lemmas.List.{take_more, map-append}
 use Rattle.std.specs.List.{AllByRecursion}
 use Rattle.hilti_base.specs.declared.names.Place.{Place}
 use Rattle.hilti_module.specs.declared.module.Module.{Module}
@@ -18,7 +18,7 @@ are_push file place (other ∷ texts) [] text m at are is = absurd are
 are_push file place (other ∷ texts) (n ∷ modules) text m at are is =
     let there : place ≡ suc file + length texts = omega (arith, at) in (are.0, are_push (suc file) place texts modules text m there are.1 is)
 
-pub are_long : (file : ℕ) (texts : List (List ℕ)) (modules : List Module) → AreFrom file texts modules → length modules ≡ length texts
+are_long : (file : ℕ) (texts : List (List ℕ)) (modules : List Module) → AreFrom file texts modules → length modules ≡ length texts
 unfolding AreFrom
 are_long file [] [] are = refl
 are_long file [] (m ∷ modules) are = absurd are
@@ -28,10 +28,6 @@ are_long file (text ∷ texts) (m ∷ modules) are = ap (λ n. suc n) (are_long 
 pub are_none : AreModules [] []
 unfolding AreFrom
 are_none = tt
-
--- so many modules are read as texts
-pub are_count : (texts : List (List ℕ)) (modules : List Module) (i : ℕ) → i ≤ length texts → AreModules (take i texts) modules → length modules ≡ i
-are_count texts modules i within are = are_long 0 (take i texts) modules are ∙ length-take-le i texts within
 
 pub are_more : (texts : List (List ℕ)) (modules : List Module) (i file : ℕ) (text : List ℕ) (m : Module) → i < length texts → text ≡ get_or texts i text
     → file ≡ length modules → AreModules (take i texts) modules → TextIsModule file text m → AreModules (take (i + 1) texts) (modules ++ m ∷ [])

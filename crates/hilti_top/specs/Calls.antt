@@ -1,40 +1,18 @@
 -- The calls of a run: that of `packet` for each packet, and then that of `done`.
-use Rattle.std.specs.Prelude.{◌≤◌, List, [], ◌∷◌, ◌++◌, length, map, codes}
-use Rattle.std.specs.Prelude.{Option, Some, None}
+use Rattle.std.specs.Prelude.{ℕ, List, codes, Option, Some, None}
 use Rattle.hilti_base.specs.declared.names.FnId.{FnId}
 use Rattle.hilti_tree.specs.declared.call.Call.{Call}
-use Rattle.hilti_tree.specs.declared.tree.Tree.TheVariants as trees
 use Rattle.hilti_parts.specs.declared.parts.Parts.{Parts}
+use Rattle.hilti_pcap.specs.Endings.{CaptureEnding}
 use Rattle.hilti_program.specs.Programs.{named}
-use Rattle.hilti_pcap.specs.declared.packet.Packet.{Packet}
+use Rattle.hilti_feed.specs.Wholes.{ComeOf}
 
--- a packet as captures have them
-abbrev pub IsShortPacket : Packet → Type 0
-IsShortPacket packet = length packet.bytes ≤ 262144
+-- calls come of a capture for these entries; a program without an entry for packets has none
+abbrev pub ComeBy : Option FnId → Option FnId → List ℕ → List Call → CaptureEnding → Type 0
+ComeBy None last capture calls ending = ⊥
+ComeBy (Some packet) last capture calls ending = ComeOf capture packet last calls ending
 
--- the call of a function with the time and the bytes of a packet
-abbrev pub call_for : FnId → Packet → Call
-call_for entry packet = record {
-  function = entry;
-  args = trees.Time packet.time ∷ trees.Bytes packet.bytes ∷ [];
-}
-
--- the call of a function without arguments
-abbrev pub bare_call : FnId → Call
-bare_call entry = record { function = entry; args = [] }
-
--- the calls of the entry that packets are handed to, where there is one
-abbrev pub packet_calls : Option FnId → List Packet → List Call
-packet_calls None packets = []
-packet_calls (Some entry) packets = map (call_for entry) packets
-
--- the call behind the last packet, where the program has such an entry
-abbrev pub last_calls : Option FnId → List Call
-last_calls None = []
-last_calls (Some entry) = bare_call entry ∷ []
-
--- the calls of a run of a program over packets
-abbrev pub calls_of : Parts → List Packet → List Call
-calls_of parts packets =
-    packet_calls (named parts (codes "Main::packet")) packets
-    ++ last_calls (named parts (codes "Main::done"))
+-- the calls of a run of a program over a capture, which ends so
+abbrev pub AreCallsOf : Parts → List ℕ → List Call → CaptureEnding → Type 0
+AreCallsOf parts =
+    ComeBy (named parts (codes "Main::packet")) (named parts (codes "Main::done"))

@@ -1,9 +1,7 @@
-pub mod Absence
 pub mod Calls
-pub mod InputFaults
 pub mod Inputs
+pub mod ModuleFaults
 pub mod ModuleTexts
 pub mod Opening
 pub mod Report
 pub mod StatusText
-pub mod Words

@@ -6,7 +6,7 @@ use Rattle.hilti_outside.specs.Contents.{FileMap, Grows, WhereTold, content}
 use Rattle.hilti_top.specs.declared.status.Status.{Status}
 use Rattle.hilti_top.specs.declared.status.Status.TheVariants as status
 use Rattle.hilti_top.specs.ModuleTexts.{IsShort}
-use Rattle.hilti_top.specs.Words.{Asks, files_in, modules_in}
+use Rattle.hilti_words.specs.Words.{Asks, files_in, modules_in}
 
 -- the names that were opened, where they are told
 abbrev pub Names : Type 0
@@ -46,6 +46,10 @@ OpensWhole words before after = Asks words (λ asked. Grows before after (files_
 abbrev pub OpensSome : List (List ℕ) → Names → Names → Type 0
 OpensSome words before after = Asks words (λ asked. OpensFront before after (files_in asked))
 
+-- nothing was opened, or a front of the files of a command
+abbrev pub OpensNoneOrSome : List (List ℕ) → Names → Names → Type 0
+OpensNoneOrSome words before after = (after ≡ before) ⊎ OpensSome words before after
+
 -- what was opened, by the answer
 abbrev pub OpensFor : Status → List (List ℕ) → Option FileMap → Names → Names → Type 0
 OpensFor status.Usage words files before after = after ≡ before
@@ -53,6 +57,8 @@ OpensFor (status.BadModule place code) words files before after =
     Asks words (λ asked. OpensRefused files before after (modules_in asked) place code)
 OpensFor (status.BadCapture at code) words files before after = OpensWhole words before after
 OpensFor status.Done words files before after = OpensWhole words before after
+OpensFor status.CallLimit words files before after = OpensWhole words before after
+OpensFor (status.CaptureCut at) words files before after = OpensWhole words before after
 OpensFor status.WriteFault words files before after = OpensWhole words before after
 OpensFor status.ReadFault words files before after = OpensSome words before after
-OpensFor status.NoMemory words files before after = OpensSome words before after
+OpensFor status.NoMemory words files before after = OpensNoneOrSome words before after

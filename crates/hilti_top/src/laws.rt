@@ -6,13 +6,6 @@ ghost use Rattle.hilti_module.specs.declared.module.Module.{Module};
 ghost use Rattle.hilti_parts.specs.declared.parts.Parts.{Parts};
 ghost use Rattle.hilti_top.specs.ModuleTexts.{AreModules, IsAccepted, IsRefused, IsShort};
 ghost use Rattle.hilti_top.specs.ModuleTexts.{IsTooLong, IsUnread};
-ghost use Rattle.hilti_top.specs.Words.{Asked, IsAsked};
-
-/// Words ask for one thing.
-pub fn one_command()
-    ensures { (words : List (List ℕ)) (asked other : Asked) →
-        IsAsked words asked → IsAsked words other → asked ≡ other }
-{}
 
 /// Texts that aren't too long aren't refused for their length, and texts that are modules aren't refused by the lexer or
 /// the grammar.

@@ -2,8 +2,6 @@
 #![tactic(auto)]
 
 mod call;
-mod calls;
-mod input;
 pub mod laws;
 mod modules;
 mod output;
@@ -11,7 +9,6 @@ mod run;
 mod status;
 #[cfg(test)]
 mod tests;
-mod words;
 
 pub use call::hilti_call;
 pub use status::Status;

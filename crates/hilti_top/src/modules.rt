@@ -7,7 +7,7 @@ ghost use Rattle.hilti_outside.specs.Contents.{Grows, WhereTold, content};
 ghost use Rattle.hilti_outside.specs.Faults.{Rose};
 ghost use Rattle.hilti_top.specs.ModuleTexts.{AreModules, IsAccepted, IsRefused, IsShort};
 ghost use Rattle.hilti_top.specs.ModuleTexts.{IsTooLong, IsUnread, start_of};
-ghost use Rattle.hilti_top.specs.InputFaults.{WhereRefused};
+ghost use Rattle.hilti_top.specs.ModuleFaults.{WhereRefused};
 ghost use Rattle.hilti_top.specs.Inputs.{AreAccepted, AreRefused};
 ghost use Rattle.hilti_top.specs.Opening.{OpensFront, OpensRefused, OpensUntil};
 
@@ -47,7 +47,7 @@ impl From<NoMemory> for ModulesFault {
 
 impl From<Refusal> for ModulesFault {
     ghost use Rattle.std.specs.Prelude.{◌≡◌};
-    ghost use Rattle.hilti_top.specs.InputFaults.{of_refusal};
+    ghost use Rattle.hilti_top.specs.ModuleFaults.{of_refusal};
 
     ghost from_gives = { λ refusal fault. fault ≡ of_refusal refusal };
 

@@ -18,9 +18,13 @@ pub enum Status {
     BadModule { place: Place, code: u32 },
     /// The capture is refused: how many bytes stand before the fault, and its code.
     BadCapture { at: u64, code: u32 },
+    /// As many calls as may started, and a call waits. The whole output was written.
+    CallLimit,
     /// A write failed. A front of the output may have been written.
     WriteFault,
     NoMemory,
+    /// The capture ends inside the record that begins at this place. The whole output was written.
+    CaptureCut { at: u64 },
 }
 
 impl Status {
@@ -34,8 +38,10 @@ impl Status {
             Status::ReadFault => 2,
             Status::BadModule { .. } => 3,
             Status::BadCapture { .. } => 4,
+            Status::CallLimit => 5,
             Status::WriteFault => 6,
             Status::NoMemory => 7,
+            Status::CaptureCut { .. } => 8,
         }
     }
 
@@ -52,8 +58,10 @@ impl Status {
             Status::ReadFault => Blob::of(alloc, b"hilti: cannot read\n"),
             Status::BadModule { place, code } => bad_module_text(alloc, place, *code),
             Status::BadCapture { at, code } => bad_capture_text(alloc, *at, *code),
+            Status::CallLimit => Blob::of(alloc, b"hilti: call limit reached\n"),
             Status::WriteFault => Blob::of(alloc, b"hilti: cannot write\n"),
             Status::NoMemory => Blob::of(alloc, b"hilti: out of memory\n"),
+            Status::CaptureCut { at } => capture_cut_text(alloc, *at),
         }
     }
 }
@@ -79,6 +87,16 @@ fn bad_capture_text(alloc: Global, at: u64, code: u32) -> Result<Blob, NoMemory>
     let mut out = Blob::of(alloc, b"hilti: capture at ")?;
     number(&mut out, at)?;
     append_code(&mut out, code)?;
+    Ok(out)
+}
+
+/// The text of a capture that is cut.
+fn capture_cut_text(alloc: Global, at: u64) -> Result<Blob, NoMemory>
+    ensures { IfOk result (λ text. text ≡ text_of (Status.CaptureCut at)) }
+{
+    let mut out = Blob::of(alloc, b"hilti: capture cut at ")?;
+    number(&mut out, at)?;
+    out.append(b"\n")?;
     Ok(out)
 }
 

@@ -13,6 +13,15 @@ const HEADER: [u8; 24] = [
 
 const RECORD: [u8; 18] = [1, 0, 0, 0, 2, 0, 0, 0, 2, 0, 0, 0, 2, 0, 0, 0, b'h', b'i'];
 
+/// The same in big-endian order, with fractions of nanoseconds.
+const HEADER_OF_NANOSECONDS: [u8; 24] = [
+    0xa1, 0xb2, 0x3c, 0x4d, 0, 2, 0, 4, 0, 0, 0, 0, 0, 0, 0, 0, 0, 4, 0, 0, 0, 0, 0, 1,
+];
+
+const RECORD_OF_NANOSECONDS: [u8; 18] = [
+    0, 0, 0, 1, 0, 0, 7, 0xd0, 0, 0, 0, 2, 0, 0, 0, 2, b'h', b'i',
+];
+
 const REPORT: &[u8] = b"thread 0: 1 calls\n  1.000002000 hi\ntotal: 1 calls, 1 segments\n";
 
 /// How the outside behaves: the bytes of a read, the calls of files that fail, the bytes of a write, and the writes
@@ -98,6 +107,22 @@ fn run(
     run_all(alloc, capture, &[module], outside)
 }
 
+/// Runs `one` with these options over a capture of this many packets and a module.
+fn run_within(
+    alloc: Global,
+    options: &[&[u8]],
+    packets: usize,
+    module: &[u8],
+) -> Result<(Status, Blob), NoMemory> {
+    let mut capture = Vec::from_slice(alloc, &HEADER)?;
+    for _ in 0..packets {
+        capture.extend_from_slice(&RECORD)?;
+    }
+    let mut front = Vec::from_slice(alloc, &[b"one".as_slice(), b"c"])?;
+    front.extend_from_slice(options)?;
+    run_words(alloc, &front, &capture, &[module], SURE)
+}
+
 /// A module with these items, and a `packet` with this body.
 fn module_of(alloc: Global, items: &[u8], body: &[u8]) -> Result<Vec<u8>, AllocError> {
     let mut text = joined(alloc, b"module Main\n", items)?;
@@ -148,6 +173,104 @@ fn reports_the_calls(rt: HostRuntime) -> Result<(), Fail> {
 }
 
 #[test]
+fn reads_each_spelling(rt: HostRuntime) -> Result<(), Fail> {
+    let alloc = rt.alloc();
+    let mut record = RECORD_OF_NANOSECONDS;
+    let capture = joined(alloc, &HEADER_OF_NANOSECONDS, &record)?;
+    let (status, written) = run(alloc, &capture, MODULE, SURE)?;
+    assert_eq!(rt; status, Status::Done);
+    assert_eq!(rt; written.bytes(), REPORT);
+    // A fraction of a whole second is added as it is.
+    record[4..8].copy_from_slice(&[0x3b, 0x9a, 0xca, 0]);
+    let capture = joined(alloc, &HEADER_OF_NANOSECONDS, &record)?;
+    let (status, written) = run(alloc, &capture, MODULE, SURE)?;
+    assert_eq!(rt; status, Status::Done);
+    assert_eq!(rt;
+        written.bytes(),
+        b"thread 0: 1 calls\n  2.000000000 hi\ntotal: 1 calls, 1 segments\n".as_slice()
+    );
+    Ok(())
+}
+
+#[test]
+fn refuses_captures(rt: HostRuntime) -> Result<(), Fail> {
+    let alloc = rt.alloc();
+    let (status, written) = run(alloc, &HEADER[..23], MODULE, SURE)?;
+    assert_eq!(rt; status, Status::BadCapture { at: 23, code: 1 });
+    assert_eq!(rt; written.len(), 0);
+    let mut header = HEADER;
+    header[6] = 3;
+    let (status, written) = run(alloc, &header, MODULE, SURE)?;
+    assert_eq!(rt; status, Status::BadCapture { at: 4, code: 3 });
+    assert_eq!(rt; written.len(), 0);
+    // A captured length of 262,145, with nothing behind the record's header.
+    let mut record = RECORD;
+    record[8..12].copy_from_slice(&[1, 0, 4, 0]);
+    let capture = joined(alloc, &HEADER, &record[..16])?;
+    let (status, written) = run(alloc, &capture, MODULE, SURE)?;
+    assert_eq!(rt; status, Status::BadCapture { at: 24, code: 4 });
+    assert_eq!(rt; written.len(), 0);
+    Ok(())
+}
+
+/// A capture that is cut is run as far as it goes.
+#[test]
+fn tells_cuts(rt: HostRuntime) -> Result<(), Fail> {
+    let alloc = rt.alloc();
+    let whole = joined(alloc, &HEADER, &RECORD)?;
+    let cut = joined(alloc, &whole, &RECORD[..3])?;
+    let (status, written) = run(alloc, &cut, MODULE, SURE)?;
+    assert_eq!(rt; status, Status::CaptureCut { at: 42 });
+    assert_eq!(rt; written.bytes(), REPORT);
+    Ok(())
+}
+
+#[test]
+fn keeps_limits(rt: HostRuntime) -> Result<(), Fail> {
+    let alloc = rt.alloc();
+    // The second of two calls waits.
+    let (status, written) = run_within(alloc, &[b"--calls=1"], 2, MODULE)?;
+    assert_eq!(rt; status, Status::CallLimit);
+    assert_eq!(rt; written.bytes(), REPORT);
+    let (status, _written) = run_within(alloc, &[b"--calls", b"2"], 2, MODULE)?;
+    assert_eq!(rt; status, Status::Done);
+    // A jump that never ends, which no handler ends.
+    let endless = module_of(
+        alloc,
+        b"",
+        b"  local string e
+  jump @a
+@a catch Exception @b e:
+  jump @a
+@b:
+  return.void
+",
+    )?;
+    let (status, written) = run_within(alloc, &[b"--fuel", b"100"], 1, &endless)?;
+    assert_eq!(rt; status, Status::Done);
+    assert_eq!(rt;
+        written.bytes(),
+        b"thread 0: 1 calls\n  ! out of fuel in Main::packet\ntotal: 1 calls, 1 segments\n".as_slice()
+    );
+    // Each instruction takes 1 of the fuel, the last too.
+    let (status, written) = run_within(alloc, &[b"--fuel=2"], 1, MODULE)?;
+    assert_eq!(rt; status, Status::Done);
+    assert_eq!(rt; written.bytes(), REPORT);
+    let (status, written) = run_within(alloc, &[b"--fuel=1"], 1, MODULE)?;
+    assert_eq!(rt; status, Status::Done);
+    assert_eq!(rt;
+        written.bytes(),
+        b"thread 0: 1 calls
+  1.000002000 hi
+  ! out of fuel in Main::packet
+total: 1 calls, 1 segments
+"
+            .as_slice()
+    );
+    Ok(())
+}
+
+#[test]
 fn hears_faults(rt: HostRuntime) -> Result<(), Fail> {
     let alloc = rt.alloc();
     let capture = joined(alloc, &HEADER, &RECORD)?;
@@ -187,7 +310,7 @@ fn says_how_it_ended(rt: HostRuntime) -> Result<(), Fail> {
         line: 30,
         column: 4,
     };
-    let texts: [(Status, u8, &[u8]); 7] = [
+    let texts: [(Status, u8, &[u8]); 9] = [
         (Status::Done, 0, b""),
         (
             Status::Usage,
@@ -205,8 +328,14 @@ fn says_how_it_ended(rt: HostRuntime) -> Result<(), Fail> {
             4,
             b"hilti: capture at 24: code 4\n",
         ),
+        (Status::CallLimit, 5, b"hilti: call limit reached\n"),
         (Status::WriteFault, 6, b"hilti: cannot write\n"),
         (Status::NoMemory, 7, b"hilti: out of memory\n"),
+        (
+            Status::CaptureCut { at: 42 },
+            8,
+            b"hilti: capture cut at 42\n",
+        ),
     ];
     for (status, number, text) in texts {
         assert_eq!(rt; status.number(), number);
@@ -426,11 +555,13 @@ fn checks_modules(rt: HostRuntime) -> Result<(), Fail> {
 #[test]
 fn knows_its_words(rt: HostRuntime) -> Result<(), Fail> {
     let alloc = rt.alloc();
-    let fronts: [&[&[u8]]; 5] = [
+    let fronts: [&[&[u8]]; 7] = [
         &[],
         &[b"check", b"--"],
         &[b"check", b"-c"],
         &[b"one", b""],
+        &[b"one", b"--fuel", b"0", b"c"],
+        &[b"one", b"--fuel", b"5", b"--fuel=6", b"c"],
         &[b"run", b"c"],
     ];
     for front in fronts {

@@ -1,11 +1,18 @@
-use Rattle.std.proofs.Common.{◌≡◌, Err, ap, subst}
+use Rattle.std.proofs.Common.{◌≡◌, ℕ, Err, ap, subst}
 use Rattle.std.proofs.lemmas.Result.{err_from_is_err_and}
+use Rattle.hilti_base.specs.declared.names.Place.{Place}
+use Rattle.hilti_base.specs.declared.refusal.Refusal.{Refusal}
+use Rattle.hilti_base.specs.declared.refusal.Refusal.TheVariants as refusals
 use Rattle.hilti_top.specs.declared.modules.ModulesFault.TheVariants.{At}
-use Rattle.hilti_top.specs.InputFaults.{of_refusal}
+use Rattle.hilti_top.specs.ModuleFaults.{of_refusal}
 use Rattle.hilti_top.specs.ModuleTexts.{IsRefused}
-use Rattle.hilti_top.proofs.Named.{refused_as}
 use Rattle.hilti_top.proofs.Opened.{refused_behind}
 use Rattle.hilti_top.proofs.modules.read_modules.Goals as goal
+
+-- what refuses modules is a refusal of that place and code
+refused_as : (refusal : Refusal) (place : Place) (code : ℕ) → of_refusal refusal ≡ At place code → refusal ≡ refusals.At place code
+refused_as (refusals.At there other) place code is = cc
+refused_as refusals.NoMemory place code is = absurd cc
 
 pub returns-in_err-read_program-clause-refused : goal.returns-in_err-read_program-clause-refused
 returns-in_err-read_program-clause-refused g c = λ place code is all told.

@@ -1,10 +1,6 @@
 use denote.Param.Send.{sendable}
-use Rattle.std.proofs.lemmas.Result.{IfOk-weaker}
 use Rattle.std.proofs.Common.{◌∙◌}
-use Rattle.hilti_log.specs.Reports.{IsReport}
-use Rattle.hilti_machine.specs.Segments.{effect_of}
-use Rattle.hilti_pool.specs.State.{InCore}
-use Rattle.hilti_top.specs.Report.{ReportsCalls}
+use Rattle.hilti_feed.specs.Wholes.{ending_of}
 use Rattle.hilti_top.proofs.Running.{reports_calls}
 use Rattle.hilti_top.proofs.Sending.{thread_send}
 use Rattle.hilti_top.proofs.run.run_calls.Goals as goal
@@ -15,8 +11,10 @@ run_alone-requires-send-B-Vt c κs = search (thread_send, sendable) depth 20
 pub report-requires-send-B-Vt : goal.report-requires-send-B-Vt
 report-requires-send-B-Vt c κs = search (thread_send, sendable) depth 20
 
+pub waiting-waiting-requires-send-B-Vt : goal.waiting-waiting-requires-send-B-Vt
+waiting-waiting-requires-send-B-Vt c κs = search (thread_send, sendable) depth 20
+
 pub returns : goal.returns
 returns c =
-    IfOk-weaker c.report.result (λ text. InCore effect_of c.in_ok-pool.pool (λ core. IsReport core text)) (λ text. ReportsCalls c.args.program c.args.calls text)
-    (λ text told. reports_calls c.in_ok-pool.pool c.args.program c.args.calls text (c.in_ok-pool.ensures.about ∙ c.in_ok-machine.ensures) c.in_ok-pool.ensures.ran told)
-    c.report.ensures
+    reports_calls c.in_ok-pool.pool c.args.limits c.args.program c.args.capture.calls (ending_of c.args.capture.end) c.status_of.result c.in_ok-text.text c.waiting-waiting.result
+    (c.in_ok-pool.ensures.about ∙ c.in_ok-machine.ensures) c.in_ok-pool.ensures.ran c.in_ok-text.ensures c.waiting-waiting.ensures c.status_of.ensures

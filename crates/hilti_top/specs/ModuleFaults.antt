@@ -1,25 +1,10 @@
--- What each fault of a layer below says of an input.
+-- What a refusal of a layer below says of modules.
 use Rattle.std.specs.Prelude.{◌≡◌, ℕ, Result, Err}
 use Rattle.hilti_base.specs.declared.names.Place.{Place}
 use Rattle.hilti_base.specs.declared.refusal.Refusal.{Refusal}
 use Rattle.hilti_base.specs.declared.refusal.Refusal.TheVariants as refusals
-use Rattle.hilti_outside.specs.declared.files.FileFault.{FileFault}
-use Rattle.hilti_outside.specs.declared.files.FileFault.TheVariants as file
-use Rattle.hilti_pcap.specs.declared.read.LeFault.{LeFault}
-use Rattle.hilti_pcap.specs.declared.read.LeFault.TheVariants as capture
-use Rattle.hilti_top.specs.declared.input.InputFault.{InputFault}
-use Rattle.hilti_top.specs.declared.input.InputFault.TheVariants.{ReadFault, NotYet, NoMemory}
 use Rattle.hilti_top.specs.declared.modules.ModulesFault.{ModulesFault}
 use Rattle.hilti_top.specs.declared.modules.ModulesFault.TheVariants as modules
-
-abbrev pub of_file : FileFault → InputFault
-of_file file.Failed = ReadFault
-of_file file.TooLong = NotYet
-of_file file.NoMemory = NoMemory
-
-abbrev pub of_capture : LeFault → InputFault
-of_capture capture.NotYet = NotYet
-of_capture capture.NoMemory = NoMemory
 
 abbrev pub of_refusal : Refusal → ModulesFault
 of_refusal (refusals.At place code) = modules.At place code
