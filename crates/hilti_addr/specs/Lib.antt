@@ -1,2 +1,4 @@
+pub mod Brackets
+pub mod Groups
 pub mod Masks
 pub mod Texts

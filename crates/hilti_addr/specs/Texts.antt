@@ -3,7 +3,8 @@ use Rattle.std.specs.Prelude.{◌≡◌, ℕ, ◌+◌, ◌*◌, ◌^◌, Bool, i
 use Rattle.hilti_base.specs.Numerals.{IsNumber}
 use Rattle.hilti_addr.specs.declared.net.Net.{Net}
 use Rattle.hilti_addr.specs.declared.port.Port.{Port}
-use Rattle.hilti_addr.specs.Masks.{mapped, masked}
+use Rattle.hilti_addr.specs.Brackets.{IsBracketAddress, IsBracketNet}
+use Rattle.hilti_addr.specs.Masks.{mapped, net_of}
 
 -- a number up to 255 and a point, with the rest behind it
 pub record IsPart (text : List ℕ) (n : ℕ) (rest : List ℕ) : Type 0 where
@@ -12,7 +13,7 @@ pub record IsPart (text : List ℕ) (n : ℕ) (rest : List ℕ) : Type 0 where
   pub number : IsNumber 255 front n
 
 -- four numbers up to 255, joined by points
-pub record IsAddress (text : List ℕ) (address : ℕ) : Type 0 where
+pub record IsDottedAddress (text : List ℕ) (address : ℕ) : Type 0 where
   pub first : List ℕ
   pub second : List ℕ
   pub third : List ℕ
@@ -28,20 +29,26 @@ pub record IsAddress (text : List ℕ) (address : ℕ) : Type 0 where
   pub at_fourth : IsNumber 255 fourth d
   pub value : address ≡ mapped (a * 2 ^ 24 + b * 2 ^ 16 + c * 2 ^ 8 + d)
 
--- the net of the first bits of an IPv4 address, so many of its 32
-abbrev pub net_of : ℕ → ℕ → Net
-net_of address len = record { addr = masked address (96 + len); len = 96 + len }
-
--- an address, a slash, and a number up to 32
-pub record IsNet (text : List ℕ) (net : Net) : Type 0 where
+-- such an address, a slash, and a number up to 32
+pub record IsDottedNet (text : List ℕ) (net : Net) : Type 0 where
   pub front : List ℕ
   pub back : List ℕ
   pub address : ℕ
   pub len : ℕ
   pub parts : text ≡ front ++ 47 ∷ back
-  pub at_front : IsAddress front address
+  pub at_front : IsDottedAddress front address
   pub at_back : IsNumber 32 back len
   pub value : net ≡ net_of address len
+
+-- an address: numbers joined by points, or groups between brackets
+pub data IsAddress (text : List ℕ) (address : ℕ) : Type 0 where
+  dotted : IsDottedAddress text address → IsAddress text address
+  bracketed : IsBracketAddress text address → IsAddress text address
+
+-- a net: such an address, a slash, and how many bits are kept
+pub data IsNet (text : List ℕ) (net : Net) : Type 0 where
+  dotted_net : IsDottedNet text net → IsNet text net
+  bracketed_net : IsBracketNet text net → IsNet text net
 
 -- `udp` or `tcp`
 abbrev pub protocol : Bool → List ℕ

@@ -10,8 +10,6 @@ mod memory;
 mod names;
 mod numeral;
 mod refusal;
-#[cfg(test)]
-mod tests;
 
 pub use collection::{Blob, Collection, Names, Numbers};
 pub use limits::Limits;

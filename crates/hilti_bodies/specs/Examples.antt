@@ -15,6 +15,7 @@ use Rattle.hilti_scope.specs.declared.meaning.Meaning.{Meaning}
 use Rattle.hilti_scope.specs.declared.meaning.Meaning.TheVariants as means
 use Rattle.hilti_link.specs.declared.tables.LinkedFunction.{LinkedFunction}
 use Rattle.hilti_link.specs.declared.tables.Tables.{Tables}
+use Rattle.hilti_link.specs.declared.versions.Version.TheVariants as versions
 use Rattle.hilti_parts.specs.declared.parts.Block.{Block}
 use Rattle.hilti_bodies.specs.Blocks.{read_body}
 
@@ -51,6 +52,7 @@ abbrev pub function : LinkedFunction
 function = record {
   site = record { file = 0; item = 0; place = at 1 };
   name = codes "f";
+  version = versions.One;
   parameters = 1;
   slots = types.Text ∷ types.Text ∷ types.Bool ∷ [];
   result = None;

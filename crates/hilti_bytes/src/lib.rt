@@ -4,8 +4,6 @@
 mod fault;
 mod numbers;
 mod pieces;
-#[cfg(test)]
-mod tests;
 
 pub use fault::BytesFault;
 pub use numbers::{to_int, to_uint};

@@ -7,8 +7,6 @@ mod numbers;
 mod operands;
 mod operations;
 mod pieces;
-#[cfg(test)]
-mod tests;
 
 pub use computing::{compute_binary, compute_sub, compute_unary};
 pub use operations::{BytesBinary, BytesUnary};

@@ -4,8 +4,6 @@
 
 mod classifier;
 pub mod laws;
-#[cfg(test)]
-mod tests;
 mod want;
 
 pub use classifier::{Added, Classifier, Got, Rule};

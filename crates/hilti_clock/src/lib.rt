@@ -5,8 +5,6 @@
 mod arithmetic;
 pub mod laws;
 mod numeral;
-#[cfg(test)]
-mod tests;
 
 pub use arithmetic::{add, mul, sub};
 pub use numeral::{read_decimal, split_decimal};

@@ -7,8 +7,6 @@ pub mod countdown;
 mod event;
 pub mod laws;
 mod pieces;
-#[cfg(test)]
-mod tests;
 
 pub use body::Body;
 pub use event::{Event, Journal};

@@ -9,15 +9,17 @@ use Rattle.hilti_module.specs.declared.module.Module.{Module}
 use Rattle.hilti_link.specs.InTurn.{behind_all}
 use Rattle.hilti_link.specs.Items.{Seen, site_of}
 use Rattle.hilti_link.specs.Linking.{behind_item, behind_module, entering, leaving, seen_first, seen_last}
+use Rattle.hilti_link.specs.Versions.{version_of}
 use Rattle.hilti_link.proofs.ModuleItems.{behind_items}
 use Rattle.hilti_declared.specs.Sites.{item_at}
 use Rattle.hilti_declared.proofs.Walks.{at_place}
 
--- an item stands at its place in its module
+-- an item stands at its place in its module, of which it has the version
 pub record There (modules : List Module) (s : Seen) (item : Item) : Type 0 where
   pub owner : Module
   pub in_modules : slice_get modules s.file ≡ Some owner
   pub in_module : slice_get owner.items s.at ≡ Some item
+  pub version_is : s.version ≡ version_of owner.version
 
 -- what stands at its site is the item
 pub item_standing : (modules : List Module) (s : Seen) (item : Item) (word : Word) → There modules s item → item_at modules (site_of s word) ≡ Some item
@@ -31,13 +33,13 @@ module _ (modules : List Module) (P : Seen → Type 0)
     (leave : (s : Seen) → P s → P (leaving s))
     (step : (s : Seen) (item : Item) → There modules s item → P s → P (behind_item s item)) where
   pass_items : (m : Module) (before left : List Item) (s : Seen) → m.items ≡ before ++ left → slice_get modules s.file ≡ Some m → s.at ≡ length before
-      → P s → P (behind_all behind_item s left)
+      → s.version ≡ version_of m.version → P s → P (behind_all behind_item s left)
   unfolding behind_all
-  pass_items m before [] s is own at p = p
-  pass_items m before (item ∷ left) s is own at p =
+  pass_items m before [] s is own at version p = p
+  pass_items m before (item ∷ left) s is own at version p =
       let more = length_push before item in
-      let there : There modules s item = record { owner = m; in_modules = own; in_module = at_place m.items before item left s.at is at } in
-      pass_items m (before ++ item ∷ []) left (behind_item s item) (is ∙ sym (append_assoc before (item ∷ []) left)) own (omega (arith, more, at))
+      let there : There modules s item = record { owner = m; in_modules = own; in_module = at_place m.items before item left s.at is at; version_is = version } in
+      pass_items m (before ++ item ∷ []) left (behind_item s item) (is ∙ sym (append_assoc before (item ∷ []) left)) own (omega (arith, more, at)) version
       (step s item there p)
 
   pass_modules : (before left : List Module) (s : Seen) → modules ≡ before ++ left → s.file ≡ length before → P s → P (behind_all behind_module s left)
@@ -49,7 +51,7 @@ module _ (modules : List Module) (P : Seen → Type 0)
       let more = length_push before m in
       pass_modules (before ++ m ∷ []) left (behind_module s m) (is ∙ sym (append_assoc before (m ∷ []) left)) (omega (arith, same, more, file))
       (leave (behind_all behind_item (entering s m) m.items)
-      (pass_items m [] m.items (entering s m) refl (at_place modules before m left s.file is file) refl (enter s m p)))
+      (pass_items m [] m.items (entering s m) refl (at_place modules before m left s.file is file) refl refl (enter s m p)))
 
   pub passed : P (seen_first modules) → P (seen_last modules)
   passed p = pass_modules [] modules (seen_first modules) refl refl p

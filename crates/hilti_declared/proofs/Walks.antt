@@ -12,8 +12,9 @@ use Rattle.hilti_scope.specs.Items.{Placed, placed, placed_in, module_named}
 use Rattle.hilti_declared.proofs.Placing.{placed-push, none_placed}
 use Rattle.hilti_link.specs.InTurn.{behind_all, first_in_turn}
 use Rattle.hilti_link.specs.Items.{Seen, item_refusal}
-use Rattle.hilti_link.specs.Linking.{behind_item, behind_module, entering, leaving, module_refusal, named_again, items_refusal, is_own, seen_first, seen_last, modules_refusal}
+use Rattle.hilti_link.specs.Linking.{behind_item, behind_module, entering, leaving, module_refusal, head_refusal, named_again, items_refusal, is_own, seen_first, seen_last, modules_refusal}
 use Rattle.hilti_link.specs.Seeing.{again}
+use Rattle.hilti_link.specs.Versions.{version_refusal}
 use Rattle.hilti_link.proofs.ModuleItems.{behind_items}
 
 -- neither of two refuses
@@ -132,10 +133,11 @@ module _ (modules : List Module) (P : Seen → Type 0)
   walk_modules before [] s is st none p = p
   walk_modules before (m ∷ left) s is st none p =
       let parts = neither (module_refusal s m) (first_in_turn module_refusal behind_module (behind_module s m) left) none in
-      let own = neither (named_again s m) (items_refusal (entering s m) m.items) parts.0 in
+      let own = neither (head_refusal s m) (items_refusal (entering s m) m.items) parts.0 in
+      let head = neither (named_again s m) (version_refusal m.version) own.0 in
       walk_modules (before ++ m ∷ []) left (behind_module s m) (is ∙ sym (append_assoc before (m ∷ []) left)) (between_next before m s st) parts.1
       (leave (behind_all behind_item (entering s m) m.items)
-      (walk_items m [] m.items (entering s m) refl (inside_first before m left s is st own.0) own.1 (enter s m p)))
+      (walk_items m [] m.items (entering s m) refl (inside_first before m left s is st head.0) own.1 (enter s m p)))
 
   first_between : Between [] (seen_first modules)
   first_between = record { modules_are = refl; file_is = refl; here_is = sym none_placed }

@@ -22,6 +22,7 @@ use Rattle.hilti_link.specs.declared.tables.LinkedFunction.{LinkedFunction}
 use Rattle.hilti_link.specs.Items.{Seen, function_of, slots_of, slots_view, tables_behind}
 use Rattle.hilti_link.specs.Linking.{behind_item, modules_count, tables_of}
 use Rattle.hilti_link.specs.Seeing.{type_at}
+use Rattle.hilti_link.specs.Versions.{version_of}
 use Rattle.hilti_declared.specs.Laws.{FunctionsHaveBodies, IsWrittenOf}
 use Rattle.hilti_declared.specs.Sites.{bodied, bodied_at}
 use Rattle.hilti_declared.proofs.Standing.{There, item_standing, passed}
@@ -62,8 +63,8 @@ module _ (modules : List Module) where
     abbrev new : LinkedFunction
     new = function_of s word name parameters body result hook
 
-    new_written : body_count body ≤ modules_count modules → IsWrittenOf modules new (record { parameters = parameters; body = body })
-    new_written few =
+    new_written : (item : Item) → There modules s item → body_count body ≤ modules_count modules → IsWrittenOf modules new (record { parameters = parameters; body = body })
+    new_written item there few =
         let slots = slots_of parameters body in
         let kinds = length-map slots (λ (p : Parameter). type_at (slots_view s slots) p.kind) in
         let both = length-append parameters body.locals in
@@ -71,6 +72,7 @@ module _ (modules : List Module) where
         record {
           parameters = omega (arith, kinds, both);
           lines = omega (arith, few, counted);
+          version = subst (λ (o : Option Module). IsSomeAnd o (λ (m : Module). s.version ≡ version_of m.version)) (sym there.in_modules) there.version_is;
         }
 
     new_has_body : (item : Item) → There modules s item → bodied (Some item) ≡ Some (record { parameters = parameters; body = body }) → body_count body ≤ item_count item
@@ -78,7 +80,7 @@ module _ (modules : List Module) where
     new_has_body item there is less p =
         let counted = item_counts modules s item there in
         All-push HasBody s.tables.functions new p
-        (subst (λ o. IsSomeAnd o (IsWrittenOf modules new)) (sym (ap bodied (item_standing modules s item word there) ∙ is)) (new_written (omega (arith, counted, less))))
+        (subst (λ o. IsSomeAnd o (IsWrittenOf modules new)) (sym (ap bodied (item_standing modules s item word there) ∙ is)) (new_written item there (omega (arith, counted, less))))
 
   type_step : (s : Seen) (name : Word) (shape : Shape) → AllHaveBodies s → AllHaveBodies (behind_item s (items.Type name shape))
   unfolding tables_behind

@@ -9,6 +9,7 @@ use Rattle.hilti_link.specs.declared.tables.LinkedFunction.{LinkedFunction}
 use Rattle.hilti_link.specs.declared.tables.Tables.{Tables}
 use Rattle.hilti_link.specs.Linking.{tables_of, modules_count}
 use Rattle.hilti_link.specs.Refusals.{first_refusal}
+use Rattle.hilti_link.specs.Versions.{version_of}
 use Rattle.hilti_parts.specs.declared.parts.Block.{Block}
 use Rattle.hilti_parts.specs.declared.parts.Hook.{Hook}
 use Rattle.hilti_parts.specs.declared.parts.Parts.{Parts}
@@ -73,8 +74,9 @@ TablesAreShort =
 pub record IsWrittenOf (modules : List Module) (f : LinkedFunction) (b : Bodied) : Type 0 where
   pub parameters : f.parameters ≤ length f.slots
   pub lines : length b.body.lines ≤ modules_count modules
+  pub version : IsSomeAnd (slice_get modules f.site.file) (λ m. f.version ≡ version_of m.version)
 
--- each function that is linked stands at its site, and has a body there
+-- each function that is linked stands at its site, has a body there, and the version of its module
 abbrev pub FunctionsHaveBodies : Type 0
 FunctionsHaveBodies =
     (modules : List Module)

@@ -31,7 +31,7 @@ pub fn entries_are_there()
     ensures { EntriesAreThere }
 {}
 
-/// Each function that is linked has a body at its site.
+/// Each function that is linked has a body at its site, and the version of its module.
 pub fn functions_have_bodies()
     ensures { FunctionsHaveBodies }
 {}

@@ -6,8 +6,6 @@ mod front;
 mod pieces;
 mod progress;
 mod tail;
-#[cfg(test)]
-mod tests;
 mod whole;
 
 pub use feed::{CaptureFeed, FeedFault, OpenedCapture, Origin, open_capture};

@@ -7,8 +7,6 @@ mod heap;
 pub mod laws;
 mod object;
 mod shelf;
-#[cfg(test)]
-mod tests;
 
 pub use fault::OpFault;
 pub use heap::Heap;

@@ -6,8 +6,6 @@ mod callables;
 mod creation;
 mod references;
 mod structs;
-#[cfg(test)]
-mod tests;
 
 pub use callables::callable_bind;
 pub use creation::create;

@@ -6,8 +6,6 @@ mod comparisons;
 mod exact;
 pub mod laws;
 mod operations;
-#[cfg(test)]
-mod tests;
 mod twos_complement;
 mod width;
 

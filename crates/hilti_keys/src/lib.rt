@@ -4,8 +4,6 @@
 mod hashes;
 pub mod laws;
 mod orders;
-#[cfg(test)]
-mod tests;
 
 pub use hashes::{hash, hash_bytes};
 pub use orders::order;

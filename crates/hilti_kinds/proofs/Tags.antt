@@ -48,6 +48,7 @@ tag_is kinds.Null = refl
 tag_is kinds.At = refl
 tag_is kinds.Unpack = refl
 tag_is kinds.Priority = refl
+tag_is kinds.Version = refl
 tag_is kinds.BytesForm = refl
 tag_is kinds.Word = refl
 tag_is kinds.Number = refl

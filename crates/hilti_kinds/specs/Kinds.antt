@@ -45,30 +45,31 @@ kind_number kinds.Null = 33
 kind_number kinds.At = 34
 kind_number kinds.Unpack = 35
 kind_number kinds.Priority = 36
-kind_number kinds.BytesForm = 37
-kind_number kinds.Word = 38
-kind_number kinds.Number = 39
-kind_number kinds.Decimal = 40
-kind_number kinds.Address = 41
-kind_number kinds.NetNumber = 42
-kind_number kinds.PortNumber = 43
-kind_number kinds.Text = 44
-kind_number kinds.BytesText = 45
-kind_number kinds.OpenBrace = 46
-kind_number kinds.CloseBrace = 47
-kind_number kinds.OpenParen = 48
-kind_number kinds.CloseParen = 49
-kind_number kinds.Less = 50
-kind_number kinds.Greater = 51
-kind_number kinds.Comma = 52
-kind_number kinds.Colon = 53
-kind_number kinds.Scope = 54
-kind_number kinds.Dot = 55
-kind_number kinds.Equals = 56
-kind_number kinds.AtSign = 57
-kind_number kinds.Star = 58
-kind_number kinds.LineEnd = 59
-kind_number kinds.DeepLess = 60
+kind_number kinds.Version = 37
+kind_number kinds.BytesForm = 38
+kind_number kinds.Word = 39
+kind_number kinds.Number = 40
+kind_number kinds.Decimal = 41
+kind_number kinds.Address = 42
+kind_number kinds.NetNumber = 43
+kind_number kinds.PortNumber = 44
+kind_number kinds.Text = 45
+kind_number kinds.BytesText = 46
+kind_number kinds.OpenBrace = 47
+kind_number kinds.CloseBrace = 48
+kind_number kinds.OpenParen = 49
+kind_number kinds.CloseParen = 50
+kind_number kinds.Less = 51
+kind_number kinds.Greater = 52
+kind_number kinds.Comma = 53
+kind_number kinds.Colon = 54
+kind_number kinds.Scope = 55
+kind_number kinds.Dot = 56
+kind_number kinds.Equals = 57
+kind_number kinds.AtSign = 58
+kind_number kinds.Star = 59
+kind_number kinds.LineEnd = 60
+kind_number kinds.DeepLess = 61
 
 -- whether a kind is this one
 abbrev pub is : Kind → Kind → Bool
@@ -82,7 +83,8 @@ keyword_kinds =
     kinds.String ∷ kinds.Bytes ∷ kinds.Addr ∷ kinds.Net ∷ kinds.Port ∷ kinds.Time ∷ kinds.Interval ∷
     kinds.Callable ∷ kinds.Tuple ∷ kinds.Iterator ∷ kinds.Ref ∷ kinds.Timer ∷ kinds.TimerMgr ∷
     kinds.List ∷ kinds.Vector ∷ kinds.Set ∷ kinds.Map ∷ kinds.Classifier ∷ kinds.True ∷
-    kinds.False ∷ kinds.Null ∷ kinds.At ∷ kinds.Unpack ∷ kinds.Priority ∷ kinds.BytesForm ∷ []
+    kinds.False ∷ kinds.Null ∷ kinds.At ∷ kinds.Unpack ∷ kinds.Priority ∷ kinds.Version ∷
+    kinds.BytesForm ∷ []
 
 -- how they are spelled
 abbrev pub spelled : Kind → List ℕ
@@ -123,6 +125,7 @@ spelled kinds.Null = codes "Null"
 spelled kinds.At = codes "at"
 spelled kinds.Unpack = codes "unpack"
 spelled kinds.Priority = codes "priority"
+spelled kinds.Version = codes "version"
 spelled kinds.BytesForm = codes "Bytes"
 spelled _ = []
 

@@ -12,7 +12,7 @@ struct Spelling {
 }
 
 /// The words that mean something.
-const KEYWORDS: [Spelling; 38] = [
+const KEYWORDS: [Spelling; 39] = [
     Spelling {
         word: b"module",
         kind: Kind::Module,
@@ -160,6 +160,10 @@ const KEYWORDS: [Spelling; 38] = [
     Spelling {
         word: b"priority",
         kind: Kind::Priority,
+    },
+    Spelling {
+        word: b"version",
+        kind: Kind::Version,
     },
     Spelling {
         word: b"Bytes",

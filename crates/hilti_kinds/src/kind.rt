@@ -80,6 +80,8 @@ pub enum Kind {
     Unpack,
     /// `priority`, which is a word elsewhere
     Priority,
+    /// `version`, which is a word elsewhere
+    Version,
     /// `Bytes`, which is a word elsewhere
     BytesForm,
     /// Any other word.

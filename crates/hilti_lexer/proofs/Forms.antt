@@ -1,19 +1,21 @@
--- A numeral has one form and one value.
+-- A numeral, or a bracket literal, has one form and one value.
 use Rattle.std.proofs.Common.{◌≡◌, ℕ, ◌+◌, ◌<◌, ◌≤◌, List, [], ◌∷◌, ◌++◌, refl, sym, ap, ◌∙◌, subst, inl, inr, arith, Bool, true, false, eqb, cond, drop}
 use Rattle.std.proofs.lemmas.Bool.Decides.{nat_tests}
 use Rattle.std.specs.Char.{digit_value}
 use Rattle.std.specs.Str.Parse.{AllDigits, digits_value}
-use Rattle.hilti_addr.specs.Texts.{IsAddress, IsNet, IsPort, protocol}
+use Rattle.hilti_addr.specs.Brackets.{IsBracketAddress, IsBracketNet}
+use Rattle.hilti_addr.specs.Texts.{IsDottedAddress, IsDottedNet, IsPort, protocol}
 use Rattle.hilti_addr.specs.declared.net.Net.{Net as NetValue}
 use Rattle.hilti_addr.specs.declared.port.Port.{Port as PortValue}
-use Rattle.hilti_addr.proofs.Forms.{one_address, one_net, one_port}
+use Rattle.hilti_addr.proofs.Spelled.{bracket_has_no_slash, one_bracket, one_bracket_net}
+use Rattle.hilti_addr.proofs.Forms.{one_dotted, one_dotted_net, one_port}
 use Rattle.hilti_base.specs.Numerals.{IsNumber, greatest}
-use Rattle.hilti_base.proofs.Splits.{one_number}
+use Rattle.hilti_base.proofs.Splits.{nowhere, one_number}
 use Rattle.hilti_clock.specs.Numerals.{IsDecimal}
 use Rattle.hilti_clock.proofs.Decimals.{one_decimal}
 use Rattle.hilti_lexer.specs.declared.token.TokenKind.{TokenKind}
 use Rattle.hilti_lexer.specs.declared.token.TokenKind.TheVariants.{Word, Number, Decimal, Address, Net, Port, Text, Bytes, Mark, LineEnd}
-use Rattle.hilti_lexer.specs.Numerals.{IsHex, IsNumeralOf}
+use Rattle.hilti_lexer.specs.Numerals.{IsBracketOf, IsHex, IsNumeralOf}
 
 -- one for each point, and ten for each slash
 weight : ℕ → ℕ
@@ -50,7 +52,7 @@ unfolding weight
 decimal_weighs text seconds nanos is =
     omega (arith, ap weigh is.parts, split_weighs is.front 46 is.fraction, number_weighs greatest is.front seconds is.whole, digits_weigh 10 is.fraction (omega arith) is.behind.digits.1)
 
-address_weighs : (text : List ℕ) (address : ℕ) → IsAddress text address → weigh text ≡ 3
+address_weighs : (text : List ℕ) (address : ℕ) → IsDottedAddress text address → weigh text ≡ 3
 unfolding weight
 address_weighs text address is =
     omega (
@@ -65,7 +67,7 @@ address_weighs text address is =
       number_weighs 255 is.fourth is.d is.at_fourth,
     )
 
-net_weighs : (text : List ℕ) (net : NetValue) → IsNet text net → weigh text ≡ 13
+net_weighs : (text : List ℕ) (net : NetValue) → IsDottedNet text net → weigh text ≡ 13
 unfolding weight
 net_weighs text net is =
     omega (arith, ap weigh is.parts, split_weighs is.front 47 is.back, address_weighs is.front is.address is.at_front, number_weighs 32 is.back is.len is.at_back)
@@ -131,8 +133,45 @@ one_numeral text (Number n) (Number m) is other = elim is [
 one_numeral text (Decimal seconds nanos) (Decimal seconds' nanos') is other =
     let same = one_decimal text seconds nanos seconds' nanos' is other in
     ap (λ s. Decimal s nanos) same.0 ∙ ap (λ n. Decimal seconds' n) same.1
-one_numeral text (Address address) (Address address') is other = ap (λ a. Address a) (one_address text address address' is other)
-one_numeral text (Net address len) (Net address' len') is other = ap (λ (n : NetValue). Net n.addr n.len) (one_net text _ _ is other)
+one_numeral text (Address address) (Address address') is other = ap (λ a. Address a) (one_dotted text address address' is other)
+one_numeral text (Net address len) (Net address' len') is other = ap (λ (n : NetValue). Net n.addr n.len) (one_dotted_net text _ _ is other)
 one_numeral text (Port number udp) (Port number' udp') is other =
     ap (λ (p : PortValue). Port p.number p.udp) (one_port text _ _ is other)
 one_numeral text kind kind' is other = let one = weighs text kind is in let two = weighs text kind' other in absurd (omega (arith, one, two))
+
+-- a bracket literal is an address or a net, with one value
+pub one_literal : (text : List ℕ) (kind kind' : TokenKind) → IsBracketOf text kind → IsBracketOf text kind' → kind ≡ kind'
+one_literal text (Number _) kind' is other = absurd is
+one_literal text (Decimal _ _) kind' is other = absurd is
+one_literal text (Port _ _) kind' is other = absurd is
+one_literal text (Word _) kind' is other = absurd is
+one_literal text (Text _) kind' is other = absurd is
+one_literal text (Bytes _) kind' is other = absurd is
+one_literal text (Mark _) kind' is other = absurd is
+one_literal text LineEnd kind' is other = absurd is
+one_literal text kind (Number _) is other = absurd other
+one_literal text kind (Decimal _ _) is other = absurd other
+one_literal text kind (Port _ _) is other = absurd other
+one_literal text kind (Word _) is other = absurd other
+one_literal text kind (Text _) is other = absurd other
+one_literal text kind (Bytes _) is other = absurd other
+one_literal text kind (Mark _) is other = absurd other
+one_literal text kind LineEnd is other = absurd other
+one_literal text (Address address) (Address address') is other = ap (λ a. Address a) (one_bracket text address address' is other)
+one_literal text (Net address len) (Net address' len') is other = ap (λ (n : NetValue). Net n.addr n.len) (one_bracket_net text _ _ is other)
+one_literal text (Address address) (Net address' len') is other = absurd (nowhere 47 text other.front other.back (bracket_has_no_slash text address is) other.parts)
+one_literal text (Net address len) (Address address') is other = absurd (nowhere 47 text is.front is.back (bracket_has_no_slash text address' other) is.parts)
+
+-- a text of neither form
+pub no_literal : (text : List ℕ) → ((address : ℕ) → ¬ (IsBracketAddress text address)) → ((net : NetValue) → ¬ (IsBracketNet text net))
+    → (kind : TokenKind) → ¬ (IsBracketOf text kind)
+no_literal text none other (Address address) is = none address is
+no_literal text none other (Net address len) is = other _ is
+no_literal text none other (Number _) is = absurd is
+no_literal text none other (Decimal _ _) is = absurd is
+no_literal text none other (Port _ _) is = absurd is
+no_literal text none other (Word _) is = absurd is
+no_literal text none other (Text _) is = absurd is
+no_literal text none other (Bytes _) is = absurd is
+no_literal text none other (Mark _) is = absurd is
+no_literal text none other LineEnd is = absurd is

@@ -1,19 +1,19 @@
 -- How long tokens are.
-use Rattle.std.proofs.Common.{◌≡◌, ℕ, ◌+◌, ◌-◌, ◌<◌, ◌≤◌, List, [], ◌∷◌, length, get_or, refl, ap, arith, Bool, true, take, drop, cond}
+use Rattle.std.proofs.Common.{◌≡◌, ℕ, ◌+◌, ◌-◌, ◌<◌, ◌≤◌, List, [], ◌∷◌, length, get_or, refl, ap, arith, Bool, true, false, eqb, take, drop, cond}
 use Rattle.std.proofs.lemmas.Grind.{common_steps}
 use Rattle.std.proofs.lemmas.Bool.Decides.{nat_tests}
 use Rattle.std.proofs.lemmas.List.{length-drop}
 use Rattle.std.specs.Char.{is_ascii_digit}
 use Rattle.std.specs.List.{prefix_len}
 use Rattle.hilti_lexer.specs.declared.beginning.Beginning.{Beginning}
-use Rattle.hilti_lexer.specs.declared.beginning.Beginning.TheVariants.{LineEnd, Word, Numeral, Text, Bytes, TwoColons, Mark, Nothing}
+use Rattle.hilti_lexer.specs.declared.beginning.Beginning.TheVariants.{LineEnd, Word, Numeral, Text, Bytes, Brackets, TwoColons, Mark, Nothing}
 use Rattle.hilti_lexer.specs.declared.fault.LexicalFault.{LexicalFault}
-use Rattle.hilti_lexer.specs.declared.fault.LexicalFault.TheVariants.{BadByte, BadNumeral, NumberTooBig, OpenString, BadEscape, LongWord}
+use Rattle.hilti_lexer.specs.declared.fault.LexicalFault.TheVariants.{BadByte, BadNumeral, NumberTooBig, OpenString, BadEscape, LongWord, BadAddress}
 use Rattle.hilti_lexer.specs.declared.token.TokenKind.{TokenKind}
 use Rattle.hilti_lexer.specs.Beginnings.{beginning_of}
-use Rattle.hilti_lexer.specs.Characters.{begins_word, is_numeral_byte, is_word_byte}
+use Rattle.hilti_lexer.specs.Characters.{begins_word, is_group_byte, is_numeral_byte, is_word_byte}
 use Rattle.hilti_lexer.specs.Strings.{FailsInside, fault_offset}
-use Rattle.hilti_lexer.specs.Tokens.{behind_run, Fails, FailsAs, Stands, StandsAs}
+use Rattle.hilti_lexer.specs.Tokens.{behind_length, behind_literal, behind_run, Fails, FailsAs, Stands, StandsAs}
 use Rattle.hilti_lexer.proofs.Beginnings.{begins_a_numeral, begins_a_word}
 use Rattle.hilti_lexer.proofs.Strings.{no_longer}
 
@@ -30,6 +30,19 @@ run_shorter passes (c ∷ cs) some h =
     let first : prefix_len passes (c ∷ cs) ≡ 1 + prefix_len passes cs = ap (λ b. cond b (1 + prefix_len passes cs) 0) h in
     omega (arith, first, length-drop (prefix_len passes (c ∷ cs)) (c ∷ cs))
 
+-- a bracket literal has a byte at least
+length_within : (text : List ℕ) → length (behind_length text) ≤ length text
+length_within text = elim (eqb (get_or text 0 0) 47) as (λ b. length (cond b (behind_run is_ascii_digit (drop 1 text)) text) ≤ length text) [
+  | true ↦ omega (arith, length-drop 1 text, length-drop (prefix_len is_ascii_digit (drop 1 text)) (drop 1 text))
+  | false ↦ omega arith
+]
+
+pub literal_within : (text : List ℕ) → length (behind_literal text) ≤ length text - 1
+literal_within text =
+    let inside : List ℕ = drop 1 text in
+    let behind : List ℕ = behind_run is_group_byte inside in
+    omega (arith, length-drop 1 text, length-drop (prefix_len is_group_byte inside) inside, length-drop 1 behind, length_within (drop 1 behind))
+
 stands_shorter_as : (begun : Beginning) (text rest : List ℕ) (kind : TokenKind) → begun ≡ beginning_of text → 0 < length text → StandsAs begun text kind rest
     → length rest < length text
 stands_shorter_as Word text rest kind e some h =
@@ -38,6 +51,7 @@ stands_shorter_as Numeral text rest kind e some h =
     omega (arith, ap length h.rest_is, run_shorter is_numeral_byte text some (numeral_byte (get_or text 0 0) (begins_a_numeral text e)))
 stands_shorter_as Text text rest kind e some h = omega (arith, ap length h.opened, no_longer h.value h.inside (34 ∷ rest) h.closed)
 stands_shorter_as Bytes text rest kind e some h = omega (arith, ap length h.opened, no_longer h.value h.inside (34 ∷ rest) h.closed)
+stands_shorter_as Brackets text rest kind e some h = omega (arith, some, ap length h.rest_is, literal_within text)
 stands_shorter_as TwoColons text rest kind e some h = omega (arith, some, ap length h.rest_is, length-drop 2 text)
 stands_shorter_as Mark text rest kind e some h = omega (arith, some, ap length h.rest_is, length-drop 1 text)
 stands_shorter_as LineEnd text rest kind e some h = omega (arith, some, ap length h.rest_is, length-drop 1 text)
@@ -53,6 +67,7 @@ offset_within BadNumeral read = omega arith
 offset_within NumberTooBig read = omega arith
 offset_within BadEscape read = omega arith
 offset_within LongWord read = omega arith
+offset_within BadAddress read = omega arith
 
 pub inside_within : (inside : List ℕ) (fault : LexicalFault) (offset : ℕ) → FailsInside inside fault offset → offset ≤ 1 + length inside
 inside_within inside fault offset h = let at = h.offset_is in omega (arith, at, offset_within fault (length inside - length h.rest))
@@ -62,6 +77,7 @@ fails_within_as Word text fault offset h = let at = h.offset_is in omega (arith,
 fails_within_as Numeral text fault offset h = let at = h.offset_is in omega (arith, at)
 fails_within_as Text text fault offset h = omega (arith, ap length h.opened, inside_within h.inside fault offset h.fails)
 fails_within_as Bytes text fault offset h = let at = h.offset_is in omega (arith, at, ap length h.opened, inside_within h.inside fault h.behind_quote h.fails)
+fails_within_as Brackets text fault offset h = let at = h.offset_is in omega (arith, at)
 fails_within_as TwoColons text fault offset h = absurd h
 fails_within_as Mark text fault offset h = absurd h
 fails_within_as LineEnd text fault offset h = absurd h

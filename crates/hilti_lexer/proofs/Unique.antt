@@ -2,7 +2,7 @@
 use Rattle.std.proofs.Common.{◌≡◌, ℕ, ◌+◌, List, [], ◌∷◌, drop, refl, sym, ap, ◌∙◌, subst, inl, inr, arith}
 use Rattle.hilti_base.specs.declared.names.Place.{Place}
 use Rattle.hilti_lexer.specs.declared.beginning.Beginning.{Beginning}
-use Rattle.hilti_lexer.specs.declared.beginning.Beginning.TheVariants.{LineEnd, Word, Numeral, Text, Bytes, TwoColons, Mark, Nothing}
+use Rattle.hilti_lexer.specs.declared.beginning.Beginning.TheVariants.{LineEnd, Word, Numeral, Text, Bytes, Brackets, TwoColons, Mark, Nothing}
 use Rattle.hilti_lexer.specs.declared.fault.LexicalFault.{LexicalFault}
 use Rattle.hilti_lexer.specs.declared.token.Token.{Token}
 use Rattle.hilti_lexer.specs.declared.token.TokenKind.{TokenKind}
@@ -12,8 +12,8 @@ use Rattle.hilti_lexer.specs.Characters.{is_numeral_byte}
 use Rattle.hilti_lexer.specs.Faults.{code_of}
 use Rattle.hilti_lexer.specs.Readings.{AreRead, IsNext, IsRefusedAt, Lexes, Refuses, behind_gap, distance, further, place_behind, start}
 use Rattle.hilti_lexer.specs.Strings.{FailsInside, IsClosed}
-use Rattle.hilti_lexer.specs.Tokens.{Fails, FailsAs, Stands, StandsAs, run}
-use Rattle.hilti_lexer.proofs.Forms.{one_numeral}
+use Rattle.hilti_lexer.specs.Tokens.{Fails, FailsAs, Stands, StandsAs, literal, run}
+use Rattle.hilti_lexer.proofs.Forms.{one_literal, one_numeral}
 use Rattle.hilti_lexer.proofs.OneSpelling.{closed_or_fails, one_closed, one_failure}
 
 one_token_as : (begun : Beginning) (text rest rest' : List ℕ) (kind kind' : TokenKind) → StandsAs begun text kind rest → StandsAs begun text kind' rest'
@@ -28,6 +28,7 @@ one_token_as Bytes text rest rest' kind kind' h h' =
     let inside : h.inside ≡ h'.inside = ap (drop 2) (sym h.opened ∙ h'.opened) in
     let same = one_closed h'.inside h.value h'.value rest rest' (subst (λ (l : List ℕ). IsClosed l h.value rest) inside h.closed) h'.closed in
     (h.kind_is ∙ ap (λ v. kinds.Bytes v) same.0 ∙ sym h'.kind_is, same.1)
+one_token_as Brackets text rest rest' kind kind' h h' = (one_literal (literal text) kind kind' h.form h'.form, h.rest_is ∙ sym h'.rest_is)
 one_token_as TwoColons text rest rest' kind kind' h h' = (h.kind_is ∙ sym h'.kind_is, h.rest_is ∙ sym h'.rest_is)
 one_token_as Mark text rest rest' kind kind' h h' = (h.kind_is ∙ sym h'.kind_is, h.rest_is ∙ sym h'.rest_is)
 one_token_as LineEnd text rest rest' kind kind' h h' = (h.kind_is ∙ sym h'.kind_is, h.rest_is ∙ sym h'.rest_is)
@@ -43,6 +44,7 @@ token_or_fault_as Text text rest kind fault offset h fails =
 token_or_fault_as Bytes text rest kind fault offset h fails =
     let inside : fails.inside ≡ h.inside = ap (drop 2) (sym fails.opened ∙ h.opened) in
     closed_or_fails h.inside h.value rest fault fails.behind_quote h.closed (subst (λ (l : List ℕ). FailsInside l fault fails.behind_quote) inside fails.fails)
+token_or_fault_as Brackets text rest kind fault offset h fails = fails.formless kind h.form
 token_or_fault_as TwoColons text rest kind fault offset h fails = absurd fails
 token_or_fault_as Mark text rest kind fault offset h fails = absurd fails
 token_or_fault_as LineEnd text rest kind fault offset h fails = absurd fails
@@ -65,6 +67,7 @@ one_fault_as Bytes text fault fault' offset offset' h h' =
     let inside : h'.inside ≡ h.inside = ap (drop 2) (sym h'.opened ∙ h.opened) in
     let same = one_failure h.inside fault fault' h.behind_quote h'.behind_quote h.fails (subst (λ (l : List ℕ). FailsInside l fault' h'.behind_quote) inside h'.fails) in
     (same.0, h.offset_is ∙ ap (λ n. 1 + n) same.1 ∙ sym h'.offset_is)
+one_fault_as Brackets text fault fault' offset offset' h h' = (h.fault_is ∙ sym h'.fault_is, h.offset_is ∙ sym h'.offset_is)
 one_fault_as TwoColons text fault fault' offset offset' h h' = absurd h
 one_fault_as Mark text fault fault' offset offset' h h' = absurd h
 one_fault_as LineEnd text fault fault' offset offset' h h' = absurd h

@@ -2,7 +2,7 @@
 use Rattle.std.specs.Prelude.{ℕ, ◌==◌, ◌&&◌, List, if◌then◌else◌, slice_index}
 use Rattle.std.specs.Char.{is_ascii_digit}
 use Rattle.hilti_lexer.specs.declared.beginning.Beginning.{Beginning}
-use Rattle.hilti_lexer.specs.declared.beginning.Beginning.TheVariants.{LineEnd, Word, Numeral, Text, Bytes, TwoColons, Mark, Nothing}
+use Rattle.hilti_lexer.specs.declared.beginning.Beginning.TheVariants.{LineEnd, Word, Numeral, Text, Bytes, Brackets, TwoColons, Mark, Nothing}
 use Rattle.hilti_lexer.specs.Characters.{begins_word, is_mark}
 
 -- what a byte begins, whatever follows it
@@ -12,6 +12,7 @@ byte_begins c =
     else if begins_word c then Word
     else if is_ascii_digit c then Numeral
     else if c == 34 then Text
+    else if c == 91 then Brackets
     else if is_mark c then Mark
     else Nothing
 

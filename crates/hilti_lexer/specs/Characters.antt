@@ -1,6 +1,6 @@
 -- The bytes of tokens, by their ASCII characters.
 use Rattle.std.specs.Prelude.{ℕ, ◌==◌, ◌&&◌, ◌||◌, Bool, not, codes}
-use Rattle.std.specs.Char.{is_ascii_alphabetic, is_ascii_alphanumeric}
+use Rattle.std.specs.Char.{is_ascii_alphabetic, is_ascii_alphanumeric, is_ascii_hexdigit}
 use Rattle.std.specs.Int.{is_in_range}
 use Rattle.std.specs.List.{list_any}
 
@@ -23,6 +23,10 @@ is_word_byte c = is_ascii_alphanumeric c || (c == 95)
 -- a letter, a digit, `.` or `/`
 abbrev pub is_numeral_byte : ℕ → Bool
 is_numeral_byte c = (is_ascii_alphanumeric c || (c == 46)) || (c == 47)
+
+-- a hexadecimal digit or `:`
+abbrev pub is_group_byte : ℕ → Bool
+is_group_byte c = is_ascii_hexdigit c || (c == 58)
 
 -- a mark of one byte
 abbrev pub is_mark : ℕ → Bool

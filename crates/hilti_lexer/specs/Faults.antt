@@ -6,7 +6,7 @@ use Rattle.hilti_base.specs.declared.refusal.Refusal.TheVariants as refusals
 use Rattle.hilti_lexer.specs.declared.fault.LexicalFault.{LexicalFault}
 use Rattle.hilti_lexer.specs.declared.missing.Missing.{Missing}
 use Rattle.hilti_lexer.specs.declared.missing.Missing.TheVariants as missing
-use Rattle.hilti_lexer.specs.declared.fault.LexicalFault.TheVariants.{BadByte, BadNumeral, NumberTooBig, OpenString, BadEscape, LongWord}
+use Rattle.hilti_lexer.specs.declared.fault.LexicalFault.TheVariants.{BadByte, BadNumeral, NumberTooBig, OpenString, BadEscape, LongWord, BadAddress}
 
 -- the code of a refusal
 abbrev pub code_of : LexicalFault → ℕ
@@ -16,6 +16,7 @@ code_of NumberTooBig = 3
 code_of OpenString = 4
 code_of BadEscape = 5
 code_of LongWord = 6
+code_of BadAddress = 7
 
 -- where a token is missing, its fault and how many bytes its place is from the front are such
 abbrev pub IfMissing : {X : Type 0} → Result X Missing → (LexicalFault → ℕ → Type 0) → Type 0

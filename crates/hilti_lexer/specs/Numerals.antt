@@ -1,7 +1,8 @@
--- The forms of numerals.
+-- The forms of numerals and of bracket literals.
 use Rattle.std.specs.Prelude.{◌≡◌, ◌≢◌, ◌⊎◌, ℕ, ◌^◌, ◌≤◌, List, ◌∷◌, length, slice_index}
 use Rattle.std.specs.Str.Parse.{digits_value, IsNumeral}
-use Rattle.hilti_addr.specs.Texts.{IsAddress, IsNet, IsPort}
+use Rattle.hilti_addr.specs.Brackets.{IsBracketAddress, IsBracketNet}
+use Rattle.hilti_addr.specs.Texts.{IsDottedAddress, IsDottedNet, IsPort}
 use Rattle.hilti_base.specs.Numerals.{IsNumber, greatest}
 use Rattle.hilti_clock.specs.Numerals.{IsDecimal}
 use Rattle.hilti_lexer.specs.declared.token.TokenKind.{TokenKind}
@@ -19,14 +20,29 @@ pub record IsHex (text : List ℕ) (n : ℕ) : Type 0 where
 abbrev pub IsNumeralOf : List ℕ → TokenKind → Type 0
 IsNumeralOf text (Number n) = IsNumber greatest text n ⊎ IsHex text n
 IsNumeralOf text (Decimal seconds nanos) = IsDecimal text seconds nanos
-IsNumeralOf text (Address address) = IsAddress text address
-IsNumeralOf text (Net address len) = IsNet text (record { addr = address; len = len })
+IsNumeralOf text (Address address) = IsDottedAddress text address
+IsNumeralOf text (Net address len) =
+    IsDottedNet text (record { addr = address; len = len })
 IsNumeralOf text (Port number udp) = IsPort text (record { number = number; udp = udp })
 IsNumeralOf text (Word _) = ⊥
 IsNumeralOf text (Text _) = ⊥
 IsNumeralOf text (Bytes _) = ⊥
 IsNumeralOf text (Mark _) = ⊥
 IsNumeralOf text LineEnd = ⊥
+
+-- the text is a bracket literal, an address or a net, with this value
+abbrev pub IsBracketOf : List ℕ → TokenKind → Type 0
+IsBracketOf text (Address address) = IsBracketAddress text address
+IsBracketOf text (Net address len) =
+    IsBracketNet text (record { addr = address; len = len })
+IsBracketOf text (Number _) = ⊥
+IsBracketOf text (Decimal _ _) = ⊥
+IsBracketOf text (Port _ _) = ⊥
+IsBracketOf text (Word _) = ⊥
+IsBracketOf text (Text _) = ⊥
+IsBracketOf text (Bytes _) = ⊥
+IsBracketOf text (Mark _) = ⊥
+IsBracketOf text LineEnd = ⊥
 
 -- digits without a leading zero, of a number above the greatest
 pub record IsTooBig (text : List ℕ) : Type 0 where

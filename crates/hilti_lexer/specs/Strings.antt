@@ -2,7 +2,7 @@
 use Rattle.std.specs.Prelude.{◌≡◌, ◌≢◌, ℕ, ◌+◌, ◌-◌, ◌*◌, ◌<◌, ◌==◌, List, [], ◌∷◌, length, slice_index, if◌then◌else◌, IsTrue, Option, Some, None}
 use Rattle.std.specs.Char.{digit_value}
 use Rattle.hilti_lexer.specs.declared.fault.LexicalFault.{LexicalFault}
-use Rattle.hilti_lexer.specs.declared.fault.LexicalFault.TheVariants.{BadByte, BadNumeral, NumberTooBig, OpenString, BadEscape, LongWord}
+use Rattle.hilti_lexer.specs.declared.fault.LexicalFault.TheVariants.{BadByte, BadNumeral, NumberTooBig, OpenString, BadEscape, LongWord, BadAddress}
 use Rattle.hilti_lexer.specs.Characters.{is_plain}
 
 -- the byte that a letter behind a `\` stands for: `\n`, `\t`, `\\` and `\"`
@@ -57,6 +57,7 @@ fault_offset BadNumeral read = 1 + read
 fault_offset NumberTooBig read = 1 + read
 fault_offset BadEscape read = 1 + read
 fault_offset LongWord read = 1 + read
+fault_offset BadAddress read = 1 + read
 
 -- the first place behind the opening `"` where no byte is spelled has no `"`, and this fault
 pub record FailsInside (inside : List ℕ) (fault : LexicalFault) (offset : ℕ) : Type 0 where

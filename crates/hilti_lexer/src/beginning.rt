@@ -11,6 +11,8 @@ pub enum Beginning {
     Numeral,
     Text,
     Bytes,
+    /// A literal of an address or a net.
+    Brackets,
     TwoColons,
     Mark,
     /// No token, no blank and no comment: the byte has no place outside a string.
@@ -41,6 +43,8 @@ fn of_byte(byte: u8) -> Beginning
         Beginning::Numeral
     } else if byte == b'"' {
         Beginning::Text
+    } else if byte == b'[' {
+        Beginning::Brackets
     } else if is_mark(byte) {
         Beginning::Mark
     } else {

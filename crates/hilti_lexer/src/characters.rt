@@ -33,6 +33,13 @@ pub fn is_numeral_byte(byte: u8) -> bool
     byte.is_ascii_alphanumeric() || byte == b'.' || byte == b'/'
 }
 
+/// Whether the byte is a hexadecimal digit or `:`.
+pub fn is_group_byte(byte: u8) -> bool
+    ensures { result ≡ characters.is_group_byte byte }
+{
+    byte.is_ascii_hexdigit() || byte == b':'
+}
+
 /// Whether the byte is a mark.
 pub fn is_mark(byte: u8) -> bool
     ensures { result ≡ characters.is_mark byte }

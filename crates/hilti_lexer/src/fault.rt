@@ -16,6 +16,8 @@ pub enum LexicalFault {
     BadEscape,
     /// A word has more than 255 bytes.
     LongWord,
+    /// A `[` begins no bracket literal of an address or a net.
+    BadAddress,
 }
 
 impl LexicalFault {
@@ -30,6 +32,7 @@ impl LexicalFault {
             LexicalFault::OpenString => 4,
             LexicalFault::BadEscape => 5,
             LexicalFault::LongWord => 6,
+            LexicalFault::BadAddress => 7,
         }
     }
 }

@@ -1,13 +1,13 @@
 //! The token at the front of a text.
 ghost use Rattle.std.specs.Prelude.{◌≡◌, ℕ, ◌<◌, ◌≤◌, ◌∷◌, List, length, IfOk};
 ghost use Rattle.hilti_lexer.specs.Faults.{IfMissing};
-ghost use Rattle.hilti_lexer.specs.Tokens.{Fails, IsBytes, IsFaultyBytes, IsFaultyText, IsLongWord, IsNoNumeral, IsNumeralToken, IsText, IsWord, Stands};
+ghost use Rattle.hilti_lexer.specs.Tokens.{Fails, IsBracketToken, IsBytes, IsFaultyBytes, IsFaultyText, IsLongWord, IsNoBracket, IsNoNumeral, IsNumeralToken, IsText, IsWord, Stands};
 
 use crate::beginning::{Beginning, front_begins};
 use crate::fault::LexicalFault;
 use crate::missing::Missing;
-use crate::numeral::{is_too_big, read_numeral};
-use crate::runs::{split_numeral, split_word};
+use crate::numeral::{is_too_big, read_brackets, read_numeral};
+use crate::runs::{split_brackets, split_numeral, split_word};
 use crate::string::read_closed;
 use crate::token::TokenKind;
 use hilti_base::Blob;
@@ -40,6 +40,7 @@ pub fn read_front(alloc: Global, text: &[u8]) -> Result<Front<'_>, Missing>
         Beginning::Numeral => read_number_token(text),
         Beginning::Text => read_text(alloc, text),
         Beginning::Bytes => read_bytes(alloc, text),
+        Beginning::Brackets => read_literal(text),
         Beginning::TwoColons => Ok(Front {
             kind: TokenKind::Mark(0),
             rest: &text[2..],
@@ -89,6 +90,21 @@ fn read_number_token(text: &[u8]) -> Result<Front<'_>, Missing>
         LexicalFault::BadNumeral
     };
     Err(Missing::At { fault, offset: 0 })
+}
+
+/// The bracket literal at the front, which begins with its `[`.
+fn read_literal(text: &[u8]) -> Result<Front<'_>, Missing>
+    ensures stands { IfOk result (λ front. IsBracketToken text.now front.kind front.rest.now) }
+    ensures fails { IfMissing result (IsNoBracket text.now) }
+{
+    let (literal, rest) = split_brackets(text);
+    if let Some(kind) = read_brackets(literal) {
+        return Ok(Front { kind, rest });
+    }
+    Err(Missing::At {
+        fault: LexicalFault::BadAddress,
+        offset: 0,
+    })
 }
 
 /// The string at the front, which begins with its `"`.

@@ -1,6 +1,6 @@
 //! The tokens of module texts, each with its place, or the first place where none begins: words, numerals (numbers in
-//! decimal or hexadecimal digits, seconds with a fraction, IPv4 addresses, nets of them, and ports), strings, bytes
-//! literals, marks and line ends (`0a`), the longest at each place, between blanks and comments (`#` to the line's end).
+//! decimal or hexadecimal digits, seconds with a fraction, IPv4 addresses, nets of them, and ports), addresses and nets
+//! between brackets, strings, bytes literals, marks and line ends (`0a`), the longest at each place, between blanks and comments (`#` to the line's end).
 #![tactic(auto)]
 
 mod beginning;
@@ -13,8 +13,6 @@ mod numeral;
 mod reading;
 mod runs;
 mod string;
-#[cfg(test)]
-mod tests;
 mod token;
 
 pub use fault::LexicalFault;

@@ -1,12 +1,14 @@
-//! The values of numerals.
+//! The values of numerals and of bracket literals.
 ghost use Rattle.std.specs.Prelude.{◌≡◌, ℕ, IfSome, IsNone, IsTrue, ◌↔◌};
 ghost use Rattle.std.specs.Char.{is_ascii_digit};
 ghost use Rattle.std.specs.List.{list_all};
 ghost use Rattle.hilti_lexer.specs.declared.token.TokenKind.{TokenKind};
-ghost use Rattle.hilti_lexer.specs.Numerals.{IsHex, IsNumeralOf, IsTooBig};
+ghost use Rattle.hilti_lexer.specs.Numerals.{IsBracketOf, IsHex, IsNumeralOf, IsTooBig};
 
 use crate::token::TokenKind;
-use hilti_addr::{read_addr, read_net, read_port};
+use hilti_addr::{
+    Net, read_bracket_addr, read_bracket_net, read_dotted_addr, read_dotted_net, read_port,
+};
 use hilti_base::{read_digits, read_number};
 use hilti_clock::split_decimal;
 
@@ -27,14 +29,26 @@ pub fn read_numeral(text: &[u8]) -> Option<TokenKind>
     if let Some((seconds, nanos)) = split_decimal(text) {
         return Some(TokenKind::Decimal(seconds, nanos));
     }
-    if let Some(address) = read_addr(text) {
+    if let Some(address) = read_dotted_addr(text) {
         return Some(TokenKind::Address(address));
     }
-    if let Some(net) = read_net(text) {
+    if let Some(net) = read_dotted_net(text) {
         return Some(TokenKind::Net(net.addr, net.len));
     }
     let port = read_port(text)?;
     Some(TokenKind::Port(port.number, port.udp))
+}
+
+/// The token of a bracket literal; `None` exactly where it is neither an address nor a net.
+pub fn read_brackets(text: &[u8]) -> Option<TokenKind>
+    ensures some { IfSome result (λ kind. IsBracketOf text.now kind) }
+    ensures none { IsNone result → (kind : TokenKind) → ¬ (IsBracketOf text.now kind) }
+{
+    if let Some(address) = read_bracket_addr(text) {
+        return Some(TokenKind::Address(address));
+    }
+    let Net { addr, len } = read_bracket_net(text)?;
+    Some(TokenKind::Net(addr, len))
 }
 
 /// Whether a text is digits without a leading zero, of a number above 2^64 - 1.

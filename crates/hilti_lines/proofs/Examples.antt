@@ -29,4 +29,8 @@ refused_lines = record {
 
 pub read_line_is : ReadLine
 unfolding named read_all first_variable are_counted read_members same_type same_code type_view.out-ValueType denote.Hole.Carrier.out
-read_line_is = record { added = refl }
+read_line_is = record {
+  added = refl;
+  added_exactly = refl;
+  masked = refl;
+}

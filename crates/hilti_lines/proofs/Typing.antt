@@ -44,7 +44,7 @@ use Rattle.hilti_operands.proofs.Joining.{all_fit}
 use Rattle.hilti_operands.proofs.ReadValues.{then_ok, passed, ok_is, found}
 use Rattle.hilti_operands.proofs.Widening.{width_is_kept, no_bodies}
 use Rattle.hilti_lines.specs.Laws.{ReadsTypedLines, NamesNoBodies}
-use Rattle.hilti_lines.specs.Lines.{is_count, has_counts, read_operands, may_stand, stand_code, instruction, end_read, read_row, line_of_row, read_in, read_line, read_mnemonic}
+use Rattle.hilti_lines.specs.Lines.{is_count, has_counts, read_operands, may_stand, stand_code, instruction, end_read, read_row, line_of_row, op_in, read_in, read_line, read_mnemonic}
 use Rattle.hilti_lines.specs.Targets.{target_variable, target_type, variable_named, is_given, needs, may_take, is_any_int, gets, is_variable, is_target, target_refusal}
 use Rattle.hilti_lines.proofs.Returning.{may_ask}
 
@@ -196,7 +196,7 @@ instruction_typed body mnemonic op target items i e =
 pub lines_typed : ReadsTypedLines
 lines_typed body target mnemonic items i e =
     let m = then_ok (read_mnemonic mnemonic) _ i e in
-    instruction_typed body mnemonic.first.place m.0 target items i m.2
+    instruction_typed body mnemonic.first.place (op_in body m.0) target items i m.2
 
 instruction_names : (body : BodySeen) (mnemonic : Place) (op : Op) (target : Option Name) (items : List Written) (i : Instruction)
     → read_in body mnemonic op target items ≡ Ok i → All (NamesNoBody body.tables) i.operands
@@ -211,4 +211,4 @@ instruction_names body mnemonic op target items i e =
 pub names_none : NamesNoBodies
 names_none body target mnemonic items i e =
     let m = then_ok (read_mnemonic mnemonic) _ i e in
-    instruction_names body mnemonic.first.place m.0 target items i m.2
+    instruction_names body mnemonic.first.place (op_in body m.0) target items i m.2

@@ -1,8 +1,10 @@
 -- A body, and lines that are read in it or refused.
 use Rattle.std.specs.Prelude.{◌≡◌, ℕ, cond, codes, bytes_eq, List, [], ◌∷◌, Option, Some}
-use Rattle.std.specs.Prelude.{None, Ok, Err}
+use Rattle.std.specs.Prelude.{None, Result, Ok, Err}
 use Rattle.hilti_base.specs.declared.names.Place.{Place}
+use Rattle.hilti_base.specs.declared.refusal.Refusal.{Refusal}
 use Rattle.hilti_base.specs.declared.refusal.Refusal.TheVariants.{At}
+use Rattle.hilti_types.specs.declared.op.Op.{Op}
 use Rattle.hilti_types.specs.declared.op.Op.TheVariants as ops
 use Rattle.hilti_types.specs.declared.value_type.ValueType.{ValueType}
 use Rattle.hilti_types.specs.declared.value_type.ValueType.TheVariants as types
@@ -19,6 +21,9 @@ use Rattle.hilti_scope.specs.declared.meaning.Meaning.{Meaning}
 use Rattle.hilti_scope.specs.declared.meaning.Meaning.TheVariants as means
 use Rattle.hilti_link.specs.declared.tables.LinkedFunction.{LinkedFunction}
 use Rattle.hilti_link.specs.declared.tables.Site.{Site}
+use Rattle.hilti_link.specs.declared.versions.Version.{Version}
+use Rattle.hilti_link.specs.declared.versions.Version.TheVariants as versions
+use Rattle.hilti_parts.specs.declared.parts.Instruction.{Instruction}
 use Rattle.hilti_parts.specs.declared.parts.Operand.TheVariants as operands
 use Rattle.hilti_parts.specs.declared.parts.Variable.TheVariants as variables
 use Rattle.hilti_operands.specs.Seen.{BodySeen}
@@ -37,11 +42,12 @@ name column bytes = record { first = word column bytes; second = None }
 abbrev pub site : Site
 site = record { file = 0; item = 0; place = at 1 }
 
--- a function with these slots, the first of which are so many parameters
-abbrev pub function : ℕ → List ValueType → Option ValueType → LinkedFunction
-function parameters slots result = record {
+-- a function of this version with these slots, the first of which are so many parameters
+abbrev pub function : Version → ℕ → List ValueType → Option ValueType → LinkedFunction
+function version parameters slots result = record {
   site = site;
   name = [];
+  version = version;
   parameters = parameters;
   slots = slots;
   result = result;
@@ -55,21 +61,25 @@ meaning bytes =
     (cond (bytes_eq bytes (codes "n")) (means.Local 1)
     (cond (bytes_eq bytes (codes "f")) (means.Function 0) means.Nothing))
 
-abbrev pub body : Option ValueType → BodySeen
-body result = record {
+abbrev pub body_of : Version → Option ValueType → BodySeen
+body_of version result = record {
   mean = λ (name : Name). meaning name.first.bytes;
   tables = record {
     types = [];
     sites = [];
     globals = [];
-    functions = function 1 (types.Int 64 ∷ []) None ∷ [];
+    functions = function version 1 (types.Int 64 ∷ []) None ∷ [];
     hooks = [];
     exceptions = [];
   };
-  function = function 0 (types.Bool ∷ types.Int 8 ∷ []) result;
+  function = function version 0 (types.Bool ∷ types.Int 8 ∷ []) result;
   label = λ (bytes : List ℕ). None;
   blocks = 1;
 }
+
+-- a body of version 1
+abbrev pub body : Option ValueType → BodySeen
+body = body_of versions.One
 
 abbrev pub of_one : ℕ → List ℕ → Mnemonic
 of_one column first = record { first = word column first; second = None }
@@ -149,15 +159,25 @@ pub record RefusedLines : Type 0 where
       read_line (body None) (Some (name 1 (codes "x"))) (of_one 5 (codes "nop")) []
       ≡ Err (At (at 1) 21)
 
--- `n = int.add n 1`: the number is of the width of `n`
+-- `n = int.NAME n 1` as it is read in a body of this version
+abbrev pub reading : Version → List ℕ → Result Instruction Refusal
+reading version second =
+    read_line (body_of version None) (Some (name 1 (codes "n")))
+    (of_two 5 (codes "int") 9 second) (n 13 ∷ number 15 1 ∷ [])
+
+-- its instruction
+abbrev pub instruction : Op → Instruction
+instruction op = record {
+  op = op;
+  target = Some (variables.Slot 1);
+  kind = Some (types.Int 8);
+  operands = operands.Var (variables.Slot 1) (types.Int 8)
+      ∷ operands.Literal (types.Int 8) (trees.Int 1) ∷ [];
+}
+
+-- `n = int.add n 1`: the number is of the width of `n`, and the instruction is exact in a body of
+-- version 2; `n = int.and n 1` is the same in both
 pub record ReadLine : Type 0 where
-  pub added :
-      read_line (body None) (Some (name 1 (codes "n")))
-      (of_two 5 (codes "int") 9 (codes "add")) (n 13 ∷ number 15 1 ∷ [])
-      ≡ Ok (record {
-        op = ops.IntAdd;
-        target = Some (variables.Slot 1);
-        kind = Some (types.Int 8);
-        operands = operands.Var (variables.Slot 1) (types.Int 8)
-            ∷ operands.Literal (types.Int 8) (trees.Int 1) ∷ [];
-      })
+  pub added : reading versions.One (codes "add") ≡ Ok (instruction ops.IntAdd)
+  pub added_exactly : reading versions.Two (codes "add") ≡ Ok (instruction ops.IntAddExact)
+  pub masked : reading versions.Two (codes "and") ≡ Ok (instruction ops.IntAnd)

@@ -15,6 +15,9 @@ use Rattle.hilti_table.specs.declared.row.Flow.TheVariants as flows
 use Rattle.hilti_table.specs.declared.row.Row.{Row}
 use Rattle.hilti_table.specs.declared.row.Takes.{Takes}
 use Rattle.hilti_table.specs.declared.row.Takes.TheVariants as takes
+use Rattle.hilti_link.specs.declared.versions.Version.{Version}
+use Rattle.hilti_link.specs.declared.versions.Version.TheVariants as versions
+use Rattle.hilti_table.specs.Exact.{exact_of}
 use Rattle.hilti_table.specs.Mnemonics.{named}
 use Rattle.hilti_table.specs.Rows.{kinds}
 use Rattle.hilti_table.specs.Table.{line_of}
@@ -37,6 +40,14 @@ spelled mnemonic = spelled_with mnemonic.first.bytes mnemonic.second
 
 abbrev pub read_mnemonic : Mnemonic → Result Op Refusal
 read_mnemonic mnemonic = ok_or (named (spelled mnemonic)) (At mnemonic.first.place 39)
+
+-- what an instruction is in a body: in one of version 2 the exact instruction, where it has one
+abbrev pub in_version : Version → Op → Op
+in_version versions.One op = op
+in_version versions.Two op = exact_of op
+
+abbrev pub op_in : BodySeen → Op → Op
+op_in body op = in_version body.function.version op
 
 -- whether a row takes so many operands
 abbrev pub is_count : Takes → ℕ → Bool
@@ -103,10 +114,10 @@ read_in body mnemonic op target items =
     target items)
     (λ (read : List Operand). Ok (instruction op body target read))
 
--- the instruction that a line stands for, or its first refusal: of the mnemonic, of how many
--- operands there are, of each operand from left to right, of the body, of the target
+-- the instruction that a line stands for in its body, or its first refusal: of the mnemonic, of how
+-- many operands there are, of each operand from left to right, of the body, of the target
 abbrev pub read_line :
     BodySeen → Option Name → Mnemonic → List Written → Result Instruction Refusal
 read_line body target mnemonic items =
     then_read (read_mnemonic mnemonic) (λ (op : Op).
-    read_in body mnemonic.first.place op target items)
+    read_in body mnemonic.first.place (op_in body op) target items)

@@ -13,7 +13,7 @@ pub fn names_no_bodies()
     ensures { NamesNoBodies }
 {}
 
-/// Lines that are refused, each by its first fault, and one that is read.
+/// Lines that are refused, each by its first fault, and lines that are read in bodies of both versions.
 pub fn examples()
     ensures refused { RefusedLines }
     ensures read { ReadLine }

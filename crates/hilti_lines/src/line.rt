@@ -12,10 +12,11 @@ use crate::mnemonic::read_mnemonic;
 use crate::stands::{may_stand, stand_code};
 use crate::target::{find_target, is_target, target_refusal};
 use hilti_base::{Place, Refusal};
+use hilti_link::Version;
 use hilti_module::{Mnemonic, Name, Operand as Written};
 use hilti_operands::{BodyView, LineView, ReadOperands, refusal, written_null, written_width};
 use hilti_parts::{Instruction, Operands};
-use hilti_table::{Row, row_of};
+use hilti_table::{Row, exact, row_of};
 use hilti_types::Op;
 use std::alloc::Global;
 
@@ -99,11 +100,22 @@ fn read_in(
     }
 }
 
-/// The instruction that a line stands for, or its first refusal. In this order: code 39 at a mnemonic that no
-/// instruction has; 31 at the mnemonic for a wrong number of operands, or of those in parentheses behind a function, a
-/// hook or a classifier; the operands from left to right, each at its place with its code; 37 and 38 at the mnemonic of
-/// a return or a `hook.stop` that may not stand in the body; of the target 21 where its name means nothing, else 32, at
-/// the target or at the mnemonic where it is missing.
+/// What an instruction is in a body: in one of version 2 the exact instruction, where it has one.
+fn op_in(body: &BodyView<'_>, op: Op) -> Op
+    ensures { result ≡ spec.op_in (body_seen body.now) op }
+{
+    match body.function.version {
+        Version::One => op,
+        Version::Two => exact(op),
+    }
+}
+
+/// The instruction that a line stands for, or its first refusal. In a body of version 2 it is the exact instruction of
+/// its mnemonic, where there is one. The refusals, in this order: code 39 at a mnemonic that no instruction has; 31 at
+/// the mnemonic for a wrong number of operands, or of those in parentheses behind a function, a hook or a classifier; the
+/// operands from left to right, each at its place with its code; 37 and 38 at the mnemonic of a return or a `hook.stop`
+/// that may not stand in the body; of the target 21 where its name means nothing, else 32, at the target or at the
+/// mnemonic where it is missing.
 pub fn read_line(
     alloc: Global,
     body: &BodyView<'_>,
@@ -115,7 +127,14 @@ pub fn read_line(
         mnemonic.now operands.now) }
 {
     match read_mnemonic(alloc, mnemonic) {
-        Ok(op) => read_in(alloc, body, mnemonic.first.place, op, target, operands),
+        Ok(op) => read_in(
+            alloc,
+            body,
+            mnemonic.first.place,
+            op_in(body, op),
+            target,
+            operands,
+        ),
         Err(refusal) => Err(refusal),
     }
 }

@@ -7,7 +7,7 @@ use Rattle.hilti_module.specs.declared.module.Module.{Module}
 use Rattle.hilti_scope.specs.Items.{placed, placed_in, placed_from}
 use Rattle.hilti_link.specs.declared.tables.Tables.{Tables}
 use Rattle.hilti_link.specs.Items.{Seen}
-use Rattle.hilti_link.specs.Linking.{no_tables, entering, behind_module, module_refusal, named_again, items_refusal, seen_first, modules_refusal, tables_of}
+use Rattle.hilti_link.specs.Linking.{no_tables, entering, behind_module, module_refusal, head_refusal, items_refusal, seen_first, modules_refusal, tables_of}
 use Rattle.hilti_link.specs.declared.standing.Context.{Context}
 use Rattle.hilti_link.specs.Standings.{IsContext, Enters, tables_behind_module}
 use Rattle.hilti_link.proofs.Answering.{Refused, answers_or, answers_behind, loop_refuses}
@@ -64,11 +64,11 @@ module_room modules file here tables m below is state so =
     let room = so.room in
     omega arith
 
-judged : (seen : Seen) (m : Module) → named_again seen m ≡ None → items_refusal (entering seen m) m.items ≡ None → module_refusal seen m ≡ None
+judged : (seen : Seen) (m : Module) → head_refusal seen m ≡ None → items_refusal (entering seen m) m.items ≡ None → module_refusal seen m ≡ None
 judged seen m named inside = ap (λ named. option_or named (items_refusal (entering seen m) m.items)) named ∙ inside
 
 pub modules_more : (modules : List Module) (file here : ℕ) (tables new : Tables) (m : Module) → file < length modules → m ≡ get_or modules file m
-    → (state : Seen) → ModulesSo modules file here tables state → named_again state m ≡ None → items_refusal (entering state m) m.items ≡ None
+    → (state : Seen) → ModulesSo modules file here tables state → head_refusal state m ≡ None → items_refusal (entering state m) m.items ≡ None
     → new ≡ tables_behind_module state m → ModulesGo modules (file + 1) (here + length m.items) new
 modules_more modules file here tables new m below is state so named inside made =
     let behind = behind_items (entering state m) m.items in (
@@ -92,18 +92,18 @@ modules_end modules file here tables past state so =
       sym so.tables_are ∙ ap (λ (behind : Seen). behind.tables) (behind_end module_refusal behind_module (seen_first modules) modules state over),
     )
 
--- a module is refused at its name, or one of its items is
+-- a module is refused at its head, or one of its items is
 pub modules_refuse_named : (modules : List Module) (file here : ℕ) (tables : Tables) (m : Module) (e : Refusal) → file < length modules → m ≡ get_or modules file m
-    → (state : Seen) → ModulesSo modules file here tables state → Refused e (named_again state m) → Refused e (modules_refusal modules)
+    → (state : Seen) → ModulesSo modules file here tables state → Refused e (head_refusal state m) → Refused e (modules_refusal modules)
 modules_refuse_named modules file here tables m e below is state so refused =
     loop_refuses module_refusal behind_module (seen_first modules) modules state modules file m e below is
-    (answers_or e (named_again state m) (items_refusal (entering state m) m.items) refused) so.going
+    (answers_or e (head_refusal state m) (items_refusal (entering state m) m.items) refused) so.going
 
 pub modules_refuse_inside : (modules : List Module) (file here : ℕ) (tables : Tables) (m : Module) (e : Refusal) → file < length modules → m ≡ get_or modules file m
-    → (state : Seen) → ModulesSo modules file here tables state → named_again state m ≡ None → Refused e (items_refusal (entering state m) m.items) → Refused e (modules_refusal modules)
+    → (state : Seen) → ModulesSo modules file here tables state → head_refusal state m ≡ None → Refused e (items_refusal (entering state m) m.items) → Refused e (modules_refusal modules)
 modules_refuse_inside modules file here tables m e below is state so none refused =
     loop_refuses module_refusal behind_module (seen_first modules) modules state modules file m e below is
-    (answers_behind e (named_again state m) (items_refusal (entering state m) m.items) none refused) so.going
+    (answers_behind e (head_refusal state m) (items_refusal (entering state m) m.items) none refused) so.going
 
 -- a module that is lent from a slice is one of them
 pub lent_below : (lent modules : List Module) (file : ℕ) → lent ≡ modules → file < length lent → file < length modules

@@ -10,6 +10,7 @@ use Rattle.hilti_link.specs.Linking.{behind_item, entering, items_refusal}
 use Rattle.hilti_link.specs.declared.standing.Context.{Context}
 use Rattle.hilti_link.specs.declared.standing.Standing.{Standing}
 use Rattle.hilti_link.specs.Standings.{IsContext, Stands, Enters, tables_behind_module}
+use Rattle.hilti_link.specs.Versions.{version_of}
 use Rattle.hilti_link.proofs.Answering.{Refused, loop_refuses}
 use Rattle.hilti_link.proofs.Turns.{Going, going_first, going_end, behind_end, loop_more, loop_end}
 
@@ -19,6 +20,7 @@ pub record ItemsSo (seen : Seen) (m : Module) (at : ℕ) (tables : Tables) (stat
   pub modules_are : state.modules ≡ seen.modules
   pub file_is : state.file ≡ seen.file
   pub owner_is : state.owner ≡ m.name.bytes
+  pub version_is : state.version ≡ version_of m.version
   pub at_is : state.at ≡ at
   pub here_is : state.here ≡ seen.here + at
   pub tables_are : state.tables ≡ tables
@@ -35,6 +37,7 @@ items_start seen m tables is = (
     modules_are = refl;
     file_is = refl;
     owner_is = refl;
+    version_is = refl;
     at_is = refl;
     here_is = omega arith;
     tables_are = is;
@@ -50,6 +53,7 @@ items_more seen m at tables new item below is state so none made = (
     modules_are = so.modules_are;
     file_is = so.file_is;
     owner_is = so.owner_is;
+    version_is = so.version_is;
     at_is = ap (λ n. suc n) so.at_is ∙ sym (add-one at);
     here_is = (let here = so.here_is in omega arith);
     tables_are = sym made;
@@ -90,9 +94,10 @@ lent_is lent inside at item same is = is ∙ ap (λ lent. get_or lent at item) s
 
 -- what the item at a place sees is that where it stands
 pub stands_so : (seen : Seen) (m : Module) (file here at : ℕ) (tables : Tables) (state : Seen) → ItemsSo seen m at tables state → Enters seen file here
-    → (standing : Standing) → standing.owner.now ≡ m.name.bytes → standing.file ≡ file → standing.at ≡ at → standing.here ≡ here + at → Stands state standing
-stands_so seen m file here at tables state so enters standing owner file_is at_is here_is = record {
+    → (standing : Standing) → standing.owner.now ≡ m.name.bytes → standing.version ≡ version_of m.version → standing.file ≡ file → standing.at ≡ at → standing.here ≡ here + at → Stands state standing
+stands_so seen m file here at tables state so enters standing owner version file_is at_is here_is = record {
   owner_is = owner ∙ sym so.owner_is;
+  version_is = version ∙ sym so.version_is;
   file_is = file_is ∙ enters.file_is ∙ sym so.file_is;
   at_is = at_is ∙ sym so.at_is;
   here_is = (let there = so.here_is in let begins = enters.here_is in omega arith);

@@ -9,6 +9,7 @@ use Rattle.hilti_link.specs.declared.tables.LinkedFunction.{LinkedFunction}
 use Rattle.hilti_link.specs.declared.tables.Site.{Site}
 use Rattle.hilti_link.specs.declared.tables.Tables.{Tables}
 use Rattle.hilti_link.specs.declared.typed_words.Role.TheVariants as roles
+use Rattle.hilti_link.specs.declared.versions.Version.{Version}
 use Rattle.hilti_link.specs.Items.{Seen, slots_of, slots_view, slots_refusal, site_of, with_function, function_of}
 use Rattle.hilti_link.specs.Standings.{SeesBehind}
 use Rattle.hilti_link.specs.TypedWords.{names_of, words_refusal, kinds_of}
@@ -40,11 +41,11 @@ module _ (seen : Seen) (tables : Tables) (scope : Scope) (parameters : List Para
 
   -- what is declared behind the body
   pub behind_body : (word : Word) (name : List ℕ) (result : Option ValueType) (hook : Option ℕ) (functions : List LinkedFunction) (site : Site) (shown : List ℕ) (count : ℕ)
-      (kinds : List ValueType) (returns : Option ValueType) (number : Option ℕ)
+      (version : Version) (kinds : List ValueType) (returns : Option ValueType) (number : Option ℕ)
       → seen.tables ≡ tables
-      → functions ≡ tables.functions ++ record { site = site; name = shown; parameters = count; slots = kinds; result = returns; hook = number } ∷ []
-      → site ≡ site_of seen word → shown ≡ name → count ≡ length parameters → kinds ≡ kinds_of (view_in tables scope) (front ++ others) → returns ≡ result → number ≡ hook
+      → functions ≡ tables.functions ++ record { site = site; name = shown; version = version; parameters = count; slots = kinds; result = returns; hook = number } ∷ []
+      → site ≡ site_of seen word → shown ≡ name → version ≡ seen.version → count ≡ length parameters → kinds ≡ kinds_of (view_in tables scope) (front ++ others) → returns ≡ result → number ≡ hook
       → record tables { functions = functions } ≡ with_function seen.tables (function_of seen word name parameters body result hook)
-  behind_body word name result hook functions site shown count kinds returns number same is site_is shown_is count_is kinds_is returns_is number_is =
+  behind_body word name result hook functions site shown count version kinds returns number same is site_is shown_is version_is count_is kinds_is returns_is number_is =
       ap (λ (functions : List LinkedFunction). record tables { functions = functions }) is
-      ∙ (λ i. with_function (sym same i) (record { site = site_is i; name = shown_is i; parameters = count_is i; slots = (kinds_is ∙ kinds_are) i; result = returns_is i; hook = number_is i }))
+      ∙ (λ i. with_function (sym same i) (record { site = site_is i; name = shown_is i; version = version_is i; parameters = count_is i; slots = (kinds_is ∙ kinds_are) i; result = returns_is i; hook = number_is i }))

@@ -25,18 +25,20 @@ use Rattle.hilti_link.specs.declared.tables.LinkedFunction.{LinkedFunction}
 use Rattle.hilti_link.specs.declared.tables.LinkedGlobal.{LinkedGlobal}
 use Rattle.hilti_link.specs.declared.tables.LinkedHook.{LinkedHook}
 use Rattle.hilti_link.specs.declared.typed_words.Role.TheVariants as roles
+use Rattle.hilti_link.specs.declared.versions.Version.{Version}
 use Rattle.hilti_link.specs.Seeing.{View, refusal_of_type, type_at, again, qualified}
 use Rattle.hilti_link.specs.TypedWords.{names_of, words_refusal, kinds_of}
 use Rattle.hilti_link.specs.Shapes.{shape_refusal, member_of, overlay_field_of}
 use Rattle.hilti_link.specs.Shapes.{parent_of}
 use Rattle.hilti_link.specs.Hooks.{hook_meant, hook_number}
 
--- the modules; the number and the name of the item's module; the item's number in it and among all
--- items; and what the items in front of it declare
+-- the modules; the number, the name and the version of the item's module; the item's number in it
+-- and among all items; and what the items in front of it declare
 pub record Seen : Type 0 where
   pub modules : List Module
   pub file : ℕ
   pub owner : List ℕ
+  pub version : Version
   pub at : ℕ
   pub here : ℕ
   pub tables : Tables
@@ -140,6 +142,7 @@ function_of seen word name parameters body result hook =
     record {
       site = site_of seen word;
       name = name;
+      version = seen.version;
       parameters = length parameters;
       slots = kinds_of (slots_view seen slots) slots;
       result = result;

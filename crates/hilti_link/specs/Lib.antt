@@ -4,6 +4,7 @@ pub mod Views
 pub mod TypedWords
 pub mod Shapes
 pub mod Hooks
+pub mod Versions
 pub mod Items
 pub mod Entries
 pub mod Linking

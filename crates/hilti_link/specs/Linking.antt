@@ -11,6 +11,8 @@ use Rattle.hilti_link.specs.declared.tables.Tables.{Tables}
 use Rattle.hilti_link.specs.InTurn.{first_in_turn, behind_all}
 use Rattle.hilti_link.specs.Seeing.{again}
 use Rattle.hilti_link.specs.Items.{Seen, item_refusal, tables_behind}
+use Rattle.hilti_link.specs.Versions.{version_of, version_refusal}
+use Rattle.hilti_link.specs.declared.versions.Version.TheVariants as versions
 
 abbrev pub no_tables : Tables
 no_tables =
@@ -34,7 +36,7 @@ behind_item seen item =
 
 -- what the first item of a module sees
 abbrev pub entering : Seen → Module → Seen
-entering seen m = record seen { owner = m.name.bytes; at = 0 }
+entering seen m = record seen { owner = m.name.bytes; version = version_of m.version; at = 0 }
 
 -- what the next module sees
 abbrev pub leaving : Seen → Seen
@@ -51,16 +53,28 @@ is_own file (Some first) = nat_eq first file
 abbrev pub named_again : Seen → Module → Option Refusal
 named_again seen m = again (not (is_own seen.file (module_named seen.modules m.name.bytes))) m.name
 
+-- behind its name, it is refused at its version
+abbrev pub head_refusal : Seen → Module → Option Refusal
+head_refusal seen m = option_or (named_again seen m) (version_refusal m.version)
+
 abbrev pub items_refusal : Seen → List Item → Option Refusal
 items_refusal seen inside = first_in_turn item_refusal behind_item seen inside
 
 abbrev pub module_refusal : Seen → Module → Option Refusal
-module_refusal seen m = option_or (named_again seen m) (items_refusal (entering seen m) m.items)
+module_refusal seen m = option_or (head_refusal seen m) (items_refusal (entering seen m) m.items)
 
 -- nothing is declared in front of the first module
 abbrev pub seen_first : List Module → Seen
 seen_first modules =
-    record { modules = modules; file = 0; owner = []; at = 0; here = 0; tables = no_tables }
+    record {
+      modules = modules;
+      file = 0;
+      owner = [];
+      version = versions.One;
+      at = 0;
+      here = 0;
+      tables = no_tables;
+    }
 
 abbrev pub modules_refusal : List Module → Option Refusal
 modules_refusal modules = first_in_turn module_refusal behind_module (seen_first modules) modules

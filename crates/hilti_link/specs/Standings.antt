@@ -24,6 +24,7 @@ pub record IsContext (modules : List Module) (context : Context) : Type 0 where
 -- an item stands where it sees this
 pub record Stands (seen : Seen) (standing : Standing) : Type 0 where
   pub owner_is : standing.owner.now ≡ seen.owner
+  pub version_is : standing.version ≡ seen.version
   pub file_is : standing.file ≡ seen.file
   pub at_is : standing.at ≡ seen.at
   pub here_is : standing.here ≡ seen.here

@@ -234,6 +234,7 @@ fn link_hook_body(
         tables.functions.push(LinkedFunction {
             site: standing.site(&name.first),
             name: standing.shown_name(alloc, name)?,
+            version: standing.version,
             parameters: parameters.len(),
             slots,
             result: None,
@@ -296,6 +297,7 @@ fn link_function(
         tables.functions.push(LinkedFunction {
             site: standing.site(name),
             name: standing.shown(alloc, name)?,
+            version: standing.version,
             parameters: parameters.len(),
             slots,
             result,

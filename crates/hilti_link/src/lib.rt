@@ -10,6 +10,7 @@ mod shapes;
 mod standing;
 mod tables;
 mod typed_words;
+mod versions;
 
 pub use hilti_scope::Modules;
 pub use linking::{Linked, link};
@@ -18,3 +19,4 @@ pub use tables::{
     LinkedException, LinkedExceptions, LinkedFunction, LinkedFunctions, LinkedGlobal,
     LinkedGlobals, LinkedHook, LinkedHooks, Site, Tables,
 };
+pub use versions::{Version, version_of};

@@ -16,6 +16,7 @@ use crate::items::link_item;
 use crate::standing::{Context, Standing};
 use crate::tables::Tables;
 use crate::typed_words::refuse_again;
+use crate::versions::{refuse_version, version_of};
 use hilti_base::Refusal;
 use hilti_module::Module;
 use hilti_scope::{Declarations, Modules};
@@ -78,8 +79,9 @@ impl Linked {
 
 /// Links modules. The first refusal answers: in textual order a name that is declared again (code 20), a name that means
 /// nothing (21), a hook body that isn't its hook's (24), a type or a form of a field that breaks the rules (25), a type that
-/// nests too deep (26), or a global's literal that isn't of its type (30) or doesn't fit (36); and behind all of these no
-/// `packet` in `Main` (22), or an entry of `Main` that isn't as it is asked (23).
+/// nests too deep (26), a module's version that is neither 1 nor 2 (27), or a global's literal that isn't of its type (30)
+/// or doesn't fit (36); and behind all of these no `packet` in `Main` (22), or an entry of `Main` that isn't as it is asked
+/// (23).
 pub fn link(alloc: Global, modules: Modules) -> Result<Linked, Refusal>
     requires some { 1 ≤ length modules }
     requires few { length modules ≤ 16 }
@@ -127,11 +129,20 @@ fn link_modules(alloc: Global, context: &Context<'_>, modules: &Modules) -> Resu
     let mut tables = Tables::new(alloc);
     let mut here = 0;
     for (file, module) in modules.as_slice().iter().enumerate() {
-        refuse_second(context, file, module)?;
+        refuse_head(context, file, module)?;
         link_module(alloc, context, &mut tables, file, here, module)?;
         here += module.items.len();
     }
     Ok(tables)
+}
+
+/// Refuses a module at its name, or else at its version.
+fn refuse_head(context: &Context<'_>, file: usize, module: &Module) -> Result<(), Refusal>
+    ensures { (seen : Seen) → IsContext seen.modules context.now → seen.file ≡ file
+        → Answers result (spec.head_refusal seen «module».now) }
+{
+    refuse_second(context, file, module)?;
+    refuse_version(&module.version)
 }
 
 /// Refuses a module whose name one in front of it has.
@@ -169,9 +180,11 @@ fn link_module(
         (λ seen. Answers result
         (spec.items_refusal (spec.entering seen «module».now) «module».now.items)) }
 {
+    let version = version_of(&module.version);
     for (at, item) in module.items.as_slice().iter().enumerate() {
         let standing = Standing {
             owner: module.name.bytes.bytes(),
+            version,
             file,
             at,
             here: here + at,

@@ -11,6 +11,7 @@ ghost use Rattle.hilti_link.specs.TypedWords.{names_of};
 use crate::hooks::Announced;
 use crate::tables::Site;
 use crate::typed_words::refuse_again;
+use crate::versions::Version;
 use hilti_base::{Blob, NoMemory, Refusal};
 use hilti_module::{Name, Parameter, Word};
 use hilti_scope::{Declarations, Scope, is_built_in};
@@ -23,10 +24,11 @@ pub struct Context<'a> {
     pub hooks: Vec<Announced<'a>>,
 }
 
-/// An item where it stands: the name and the number of its module, and its number in it and among all items.
+/// An item where it stands: the name, the version and the number of its module, and its number in it and among all items.
 #[derive(Clone, Copy, Debug)]
 pub struct Standing<'a> {
     pub owner: &'a [u8],
+    pub version: Version,
     pub file: usize,
     pub at: usize,
     pub here: usize,

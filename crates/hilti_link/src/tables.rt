@@ -3,6 +3,7 @@ ghost use Rattle.std.specs.Prelude.{◌≡◌, OnOk};
 ghost use Rattle.hilti_link.specs.Items.{with_type};
 ghost use Rattle.hilti_link.specs.Linking.{no_tables};
 
+use crate::versions::Version;
 use hilti_base::{Blob, Collection, NoMemory, Place};
 use hilti_types::{Declared, TypeTable, ValueType, ValueTypes};
 use std::alloc::Global;
@@ -26,12 +27,13 @@ pub struct LinkedGlobal {
 /// Globals in textual order.
 pub type LinkedGlobals = Collection<LinkedGlobal>;
 
-/// A function or a hook body: the types of its parameters and of its locals behind them, its result, and the number of
-/// the hook whose body it is.
+/// A function or a hook body: the version of its module, the types of its parameters and of its locals behind them, its
+/// result, and the number of the hook whose body it is.
 #[derive(Debug, Drop)]
 pub struct LinkedFunction {
     pub site: Site,
     pub name: Blob,
+    pub version: Version,
     pub parameters: usize,
     pub slots: ValueTypes,
     pub result: Option<ValueType>,

@@ -3,8 +3,6 @@
 
 mod events;
 pub mod laws;
-#[cfg(test)]
-mod tests;
 mod threads;
 
 pub use events::journal_text;

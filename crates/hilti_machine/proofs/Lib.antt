@@ -10,4 +10,3 @@ mod Stopping
 mod Coding
 mod Placing
 mod Emptying
-mod ExampleTyped

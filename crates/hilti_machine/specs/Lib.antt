@@ -3,4 +3,3 @@ pub mod Sound
 pub mod Segments
 pub mod Begun
 pub mod Steps
-pub mod Example

@@ -7,8 +7,6 @@ mod letting;
 mod machine;
 mod run;
 mod step;
-#[cfg(test)]
-mod tests;
 mod vthread;
 
 pub use machine::Machine;

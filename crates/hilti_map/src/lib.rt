@@ -3,7 +3,5 @@
 #![tactic(auto)]
 
 mod keyed;
-#[cfg(test)]
-mod tests;
 
 pub use keyed::Keyed;

@@ -5,11 +5,13 @@ ghost use Rattle.hilti_module.specs.Counts.{module_count};
 use crate::types::{Container, Name, Number, Parametric, PlainType, TypeText, Word, Words};
 use hilti_base::{Blob, Collection, Place};
 
-/// A module: its name, and its items in order. It has at most 1,048,576 items, fields, constants,
-/// parameters, locals, labels, handlers, lines and operands in all.
+/// A module: its name, the number of its version where it is written, and its items in order. It has
+/// at most 1,048,576 items, fields, constants, parameters, locals, labels, handlers, lines and
+/// operands in all.
 #[derive(Debug, Drop)]
 pub struct Module {
     pub name: Word,
+    pub version: Option<Number>,
     pub items: Items,
     ghost bounded: { module_count items ≤ 1048576 },
 }

@@ -1,7 +1,8 @@
 -- What instructions compute of addresses, nets and ports.
-use Rattle.std.specs.Prelude.{ℕ, ◌+◌, ◌-◌, ◌^◌, ◌<◌, ◌==◌, nat_le, Bool, true, false, not}
+use Rattle.std.specs.Prelude.{ℕ, ◌-◌, ◌^◌, ◌<◌, ◌==◌, nat_le, Bool, true, false, not}
 use Rattle.std.specs.Prelude.{if◌then◌else◌, Result, Ok, Err}
-use Rattle.hilti_addr.specs.Masks.{masked}
+use Rattle.hilti_addr.specs.Masks.{bits_above, first_bits, masked, most_bits}
+use Rattle.hilti_addr.specs.Masks.{net_of as first_net}
 use Rattle.hilti_addr.specs.declared.net.Net.{Net}
 use Rattle.hilti_addr.specs.declared.port.Port.{Port}
 use Rattle.hilti_base.specs.declared.refusal.Raise.{Raise}
@@ -65,13 +66,17 @@ TakesTwo binaries.AddrMask a b = IsAddr a × IsInt b
 TakesTwo binaries.NetMake a b = IsAddr a × IsInt b
 TakesTwo binaries.NetContains a b = IsNet a × IsAddr b
 
--- the bits above those of an IPv4 address
-abbrev pub above : ℕ
-above = 96
+-- what is made of an address and a number of bits, where the lengths of the address go so far
+abbrev pub within_bits : {A : Type 0} → ℕ → ℕ → A → Result A Raise
+within_bits address bits made = if nat_le bits (most_bits address) then Ok made else Err ValueError
 
--- what is made of a number of bits, where an IPv4 address has so many
-abbrev pub up_to_32 : {A : Type 0} → ℕ → A → Result A Raise
-up_to_32 bits made = if nat_le bits 32 then Ok made else Err ValueError
+-- a net's length as it is counted for its address
+abbrev pub net_length : Net → ℕ
+net_length net = net.len - bits_above net.addr
+
+-- a net as a value
+abbrev pub net_value : Net → Value
+net_value net = values.Net net.len net.addr
 
 -- whether an address has the first bits of a net
 abbrev pub has_first_bits : Net → ℕ → Bool
@@ -80,17 +85,16 @@ has_first_bits net address = masked address net.len == masked net.addr net.len
 -- what is computed of a value
 abbrev pub unary_of : NetworkUnary → Value → Value
 unary_of unaries.NetAddr a = values.Addr (net_of a).addr
-unary_of unaries.NetLength a = values.Int ((net_of a).len - above)
+unary_of unaries.NetLength a = values.Int (net_length (net_of a))
 unary_of unaries.PortTcp a = values.Port (whole_of a) false
 unary_of unaries.PortUdp a = values.Port (whole_of a) true
 unary_of unaries.PortNumber a = values.Int (port_of a).number
 unary_of unaries.PortIsTcp a = values.Bool (not (port_of a).udp)
 
--- what is computed of two values; a mask keeps the bits above those of an IPv4 address
+-- what is computed of two values
 abbrev pub binary_of : NetworkBinary → Value → Value → Result Value Raise
 binary_of binaries.AddrMask a b =
-    up_to_32 (whole_of b) (values.Addr (masked (address_of a) (above + whole_of b)))
+    within_bits (address_of a) (whole_of b) (values.Addr (first_bits (address_of a) (whole_of b)))
 binary_of binaries.NetMake a b =
-    up_to_32 (whole_of b)
-    (values.Net (above + whole_of b) (masked (address_of a) (above + whole_of b)))
+    within_bits (address_of a) (whole_of b) (net_value (first_net (address_of a) (whole_of b)))
 binary_of binaries.NetContains a b = Ok (values.Bool (has_first_bits (net_of a) (address_of b)))

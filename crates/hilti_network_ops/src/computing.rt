@@ -1,17 +1,14 @@
 ghost use Rattle.std.specs.Prelude.{◌≡◌};
-ghost use Rattle.hilti_addr.specs.Texts.{net_of as first_of};
+ghost use Rattle.hilti_addr.specs.Masks.{net_of as first_net};
 ghost use Rattle.hilti_network_ops.specs.Computing.{TakesOne, TakesTwo, unary_of, binary_of};
-ghost use Rattle.hilti_network_ops.specs.Computing.{has_first_bits, up_to_32};
-ghost use Rattle.hilti_values.specs.declared.value.Value.TheVariants as values;
+ghost use Rattle.hilti_network_ops.specs.Computing.{has_first_bits, net_length, within_bits};
+ghost use Rattle.hilti_network_ops.specs.Computing as computing;
 
 use crate::operands::{address, net, port, port_number, whole};
 use crate::operations::{NetworkBinary, NetworkUnary};
-use hilti_addr::{Net, contains, make_net};
+use hilti_addr::{Net, bits_above, contains, make_net};
 use hilti_base::Raise;
 use hilti_values::Value;
-
-/// The bits above those of an IPv4 address.
-const ABOVE: u8 = 96;
 
 /// The most bits of a net.
 const MOST: u8 = 128;
@@ -24,7 +21,7 @@ pub fn compute_unary(op: NetworkUnary, a: &Value) -> Value
 {
     match op {
         NetworkUnary::NetAddr => Value::Addr(net(a).addr),
-        NetworkUnary::NetLength => Value::Int(u64::from(net(a).len.saturating_sub(ABOVE))),
+        NetworkUnary::NetLength => Value::Int(u64::from(length(net(a)))),
         NetworkUnary::PortTcp => Value::Port(port_number(a), false),
         NetworkUnary::PortUdp => Value::Port(port_number(a), true),
         NetworkUnary::PortNumber => Value::Int(u64::from(port(a).number)),
@@ -45,18 +42,26 @@ pub fn compute_binary(op: NetworkBinary, a: &Value, b: &Value) -> Result<Value, 
     })
 }
 
-/// The net of the first bits of an IPv4 address, so many of its 32; `ValueError` exactly where they are more than 32.
+/// The net of the first bits of an address: so many of the last 32 of an address in `::ffff:0:0/96`, and of all 128 of
+/// another; `ValueError` exactly where they are more.
 fn first_bits(address: u128, count: u64) -> Result<Net, Raise>
-    ensures { result ≡ up_to_32 count (first_of address count) }
+    ensures { result ≡ within_bits address count (first_net address count) }
 {
-    if count > 32 {
+    if count > u64::from(MOST) {
         return Err(Raise::ValueError);
     }
     make_net(address, count as u8).ok_or(Raise::ValueError)
 }
 
+/// The net's length: less 96 where its address is in `::ffff:0:0/96`.
+fn length(net: Net) -> u8
+    ensures { result ≡ net_length net }
+{
+    net.len.saturating_sub(bits_above(net.addr))
+}
+
 fn net_value(net: Net) -> Value
-    ensures { result ≡ values.Net net.len net.addr }
+    ensures { result ≡ computing.net_value net }
 {
     Value::Net {
         length: net.len,

@@ -4,8 +4,6 @@
 mod computing;
 mod operands;
 mod operations;
-#[cfg(test)]
-mod tests;
 
 pub use computing::{compute_binary, compute_unary};
 pub use operations::{NetworkBinary, NetworkUnary};

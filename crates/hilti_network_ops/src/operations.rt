@@ -2,7 +2,7 @@
 #[derive(Clone, Copy, Debug, PartialEq, Eq)]
 pub enum NetworkUnary {
     NetAddr,
-    /// The length as it is written, which counts from the top of an IPv4 address.
+    /// The length, less 96 where the net's address is in `::ffff:0:0/96`.
     NetLength,
     /// The TCP port of a 16-bit number.
     PortTcp,
@@ -15,9 +15,10 @@ pub enum NetworkUnary {
 /// What is computed of an address or a net, and of a number or an address.
 #[derive(Clone, Copy, Debug, PartialEq, Eq)]
 pub enum NetworkBinary {
-    /// An IPv4 address with so many of its 32 bits kept, from the top; above 32, ValueError is raised.
+    /// An address with so many of its first bits kept: of the last 32 of an address in `::ffff:0:0/96`, and of all 128
+    /// of another; above these, ValueError is raised.
     AddrMask,
-    /// The net of so many bits of an IPv4 address, from the top; above 32, ValueError is raised.
+    /// The net of so many of these bits; above them, ValueError is raised.
     NetMake,
     /// Whether the address is in the net.
     NetContains,

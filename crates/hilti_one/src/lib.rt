@@ -3,7 +3,5 @@
 
 mod alone;
 pub mod laws;
-#[cfg(test)]
-mod tests;
 
 pub use alone::run_alone;

@@ -17,8 +17,6 @@ mod shelf;
 mod sink;
 mod sure_files;
 mod sure_sink;
-#[cfg(test)]
-mod tests;
 
 pub use disk_files::DiskFiles;
 pub use files::{Failed, FileFault, Files, read_file};

@@ -8,7 +8,7 @@ use Rattle.std.proofs.lemmas.Nat.{mul-le}
 use Rattle.std.proofs.Math.Nat.{mod-eq_of_lt, mod-lt, one-le-pow, pow-succ'}
 use Rattle.byteorder.specs.Endian.{big_from, big_number, little_from, little_number}
 use Rattle.hilti_overlay.specs.declared.field.Form.{Form}
-use Rattle.hilti_overlay.specs.declared.field.Form.TheVariants.{U8, U16Big, U32Big, U64Big, U16Little, U32Little, U64Little, Ipv4, PortTcp, PortUdp, Bytes}
+use Rattle.hilti_overlay.specs.declared.field.Form.TheVariants.{U8, U16Big, U32Big, U64Big, U16Little, U32Little, U64Little, Ipv4, Ipv6, PortTcp, PortUdp, Bytes}
 use Rattle.hilti_overlay.specs.declared.field.Scalar.TheVariants as scalars
 use Rattle.hilti_overlay.specs.Fields.{bits_in, value_of, width_of}
 
@@ -63,6 +63,7 @@ whole U32Little at bytes all =
 whole U64Little at bytes all =
     ap (λ n. scalars.Int n) (all_bits 63 (little_number 8 bytes) (omega (arith, little_below 8 0 bytes all)))
 whole Ipv4 at bytes all = refl
+whole Ipv6 at bytes all = refl
 whole PortTcp at bytes all = refl
 whole PortUdp at bytes all = refl
 whole (Bytes n) at bytes all = refl

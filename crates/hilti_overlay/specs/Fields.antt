@@ -3,7 +3,8 @@ use Rattle.std.specs.Prelude.{ℕ, ◌+◌, ◌-◌, ◌/◌, ◌%◌, ◌^◌, 
 use Rattle.byteorder.specs.Endian.{big_number, little_number}
 use Rattle.hilti_addr.specs.Masks.{mapped}
 use Rattle.hilti_overlay.specs.declared.field.Form.{Form}
-use Rattle.hilti_overlay.specs.declared.field.Form.TheVariants.{U8, U16Big, U32Big, U64Big, U16Little, U32Little, U64Little, Ipv4, PortTcp, PortUdp, Bytes}
+use Rattle.hilti_overlay.specs.declared.field.Form.TheVariants.{U8, U16Big, U32Big, U64Big, U16Little, U32Little, U64Little}
+use Rattle.hilti_overlay.specs.declared.field.Form.TheVariants.{Ipv4, Ipv6, PortTcp, PortUdp, Bytes}
 use Rattle.hilti_overlay.specs.declared.field.Scalar.{Scalar}
 use Rattle.hilti_overlay.specs.declared.field.Scalar.TheVariants as scalars
 use Rattle.hilti_overlay.specs.declared.field.Unpack.{Unpack}
@@ -18,6 +19,7 @@ size_of U16Little = 2
 size_of U32Little = 4
 size_of U64Little = 8
 size_of Ipv4 = 4
+size_of Ipv6 = 16
 size_of PortTcp = 2
 size_of PortUdp = 2
 size_of (Bytes n) = n
@@ -53,6 +55,7 @@ value_of U16Little bits at bytes = scalars.Int (bits_in bits (little_number 2 by
 value_of U32Little bits at bytes = scalars.Int (bits_in bits (little_number 4 bytes))
 value_of U64Little bits at bytes = scalars.Int (bits_in bits (little_number 8 bytes))
 value_of Ipv4 bits at bytes = scalars.Addr (mapped (big_number 4 bytes))
+value_of Ipv6 bits at bytes = scalars.Addr (big_number 16 bytes)
 value_of PortTcp bits at bytes = scalars.Port (big_number 2 bytes) false
 value_of PortUdp bits at bytes = scalars.Port (big_number 2 bytes) true
 value_of (Bytes n) bits at bytes = scalars.Range at n

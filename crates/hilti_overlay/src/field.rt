@@ -13,6 +13,8 @@ pub enum Form {
     U64Little,
     /// An IPv4 address, the highest byte first.
     Ipv4,
+    /// An address of 16 bytes, the highest byte first.
+    Ipv6,
     /// A TCP port, the higher byte first.
     PortTcp,
     /// A UDP port, the higher byte first.
@@ -31,6 +33,7 @@ impl Form {
             Form::U16Big | Form::U16Little | Form::PortTcp | Form::PortUdp => 2,
             Form::U32Big | Form::U32Little | Form::Ipv4 => 4,
             Form::U64Big | Form::U64Little => 8,
+            Form::Ipv6 => 16,
             Form::Bytes(size) => u64::from(size),
         }
     }

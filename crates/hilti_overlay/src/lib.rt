@@ -4,8 +4,6 @@
 
 mod field;
 pub mod laws;
-#[cfg(test)]
-mod tests;
 mod unpack;
 
 pub use field::{Form, PastEnd, Scalar, Unpack};

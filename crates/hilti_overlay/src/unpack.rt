@@ -42,6 +42,7 @@ fn unpack(form: Form, bits: Option<(u8, u8)>, start: u64, bytes: &[u8]) -> Scala
         Form::U32Little => Scalar::Int(cut(bits, u64::from(LittleEndian::read_u32(bytes)))),
         Form::U64Little => Scalar::Int(cut(bits, LittleEndian::read_u64(bytes))),
         Form::Ipv4 => Scalar::Addr(v4(BigEndian::read_u32(bytes))),
+        Form::Ipv6 => Scalar::Addr(BigEndian::read_u128(bytes)),
         Form::PortTcp => Scalar::Port(BigEndian::read_u16(bytes), false),
         Form::PortUdp => Scalar::Port(BigEndian::read_u16(bytes), true),
         Form::Bytes(size) => Scalar::Range {

@@ -10,8 +10,6 @@ mod packet;
 mod read;
 mod reader;
 mod record;
-#[cfg(test)]
-mod tests;
 
 pub use header::{Header, HeaderFault, read_header};
 pub use packet::{Packet, Packets};

@@ -9,9 +9,9 @@ use Rattle.hilti_module.specs.declared.module.Item.{Item}
 use Rattle.hilti_module.specs.declared.module.Item.TheVariants as items
 use Rattle.hilti_read_types.specs.Trees.{type_tree}
 use Rattle.hilti_read_shapes.specs.Shapes.{arguments_tree, shape_tree}
-use Rattle.hilti_syntax.specs.Items.{body_tree, behind_hook, declared_hook, hook_tree, item_tree, items_tree, result_tree, value_tree}
+use Rattle.hilti_syntax.specs.Items.{body_tree, behind_hook, declared_hook, hook_tree, item_tree, items_tree, result_tree, value_tree, version_tree}
 use Rattle.hilti_places.specs.InTurn.{ItemsInTurn, NameKept}
-use Rattle.hilti_places.specs.Places.{IsPartOf, item_places, kept_tokens, name_place, name_word, tree_places}
+use Rattle.hilti_places.specs.Places.{IsPartOf, item_places, kept_tokens, name_place, name_word, tree_places, version_places}
 use Rattle.hilti_places.proofs.Parts.{part_both, part_contains, part_map, part_one}
 
 list_places : (xs : List Item) → tree_places (items_tree xs) ≡ flat_map item_places xs
@@ -20,7 +20,9 @@ list_places (x ∷ xs) =
     map-append (λ (token : Token). token.place) (kept_tokens (item_tree x)) (kept_tokens (items_tree xs)) ∙ ap (λ l. item_places x ++ l) (list_places xs)
 
 pub items_in_turn : ItemsInTurn
-items_in_turn m = ap (λ l. m.name.place ∷ l) (list_places m.items)
+items_in_turn m =
+    ap (λ l. m.name.place ∷ l)
+    (map-append (λ (token : Token). token.place) (kept_tokens (version_tree m.version)) (kept_tokens (items_tree m.items)) ∙ ap (λ l. version_places m.version ++ l) (list_places m.items))
 
 -- the token of a word
 abbrev token_of : Word → Token

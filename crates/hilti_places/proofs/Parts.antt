@@ -11,6 +11,10 @@ pub part_none : {X : Type 0} (xs : List X) → IsPartOf [] xs
 part_none [] = AtEnd
 part_none (x ∷ xs) = LeftOut (part_none xs)
 
+pub part_same : {X : Type 0} (xs : List X) → IsPartOf xs xs
+part_same [] = AtEnd
+part_same (x ∷ xs) = Kept (part_same xs)
+
 pub part_one : {X : Type 0} (x : X) (front back : List X) → IsPartOf (x ∷ []) (front ++ x ∷ back)
 part_one x [] back = Kept (part_none back)
 part_one x (y ∷ front) back = LeftOut (part_one x front back)

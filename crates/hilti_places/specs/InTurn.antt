@@ -7,7 +7,7 @@ use Rattle.hilti_lexer.specs.Readings.{Lexes}
 use Rattle.hilti_module.specs.declared.module.Item.{Item}
 use Rattle.hilti_module.specs.declared.module.Module.{Module}
 use Rattle.hilti_pieces.specs.Pieces.{pieces_of}
-use Rattle.hilti_places.specs.Places.{IsBefore, IsPartOf, Rise, item_places, kept_tokens, name_place, places_of, tree_places}
+use Rattle.hilti_places.specs.Places.{IsBefore, IsPartOf, Rise, item_places, kept_tokens, name_place, places_of, tree_places, version_places}
 use Rattle.hilti_syntax.specs.Items.{IsModule, module_tree}
 use Rattle.hilti_syntax.specs.Texts.{TextIsModule}
 
@@ -26,11 +26,12 @@ abbrev pub PlacesRise : Type 0
 PlacesRise = (file : ℕ) (text : List ℕ) (m : Module) →
     TextIsModule file text m → Rise file (tree_places (module_tree m))
 
--- the places in the tree of a module are those of its name and then those of its items, one item
--- behind another
+-- the places in the tree of a module are those of its name, then that of its version where it is
+-- written, and then those of its items, one item behind another
 abbrev pub ItemsInTurn : Type 0
 ItemsInTurn = (m : Module) →
-    tree_places (module_tree m) ≡ m.name.place ∷ flat_map item_places m.items
+    tree_places (module_tree m)
+    ≡ m.name.place ∷ version_places m.version ++ flat_map item_places m.items
 
 -- every place of an item is before every place of a later one
 abbrev pub ItemsApart : Type 0
@@ -44,7 +45,8 @@ ItemsApart =
 abbrev pub NameKept : Type 0
 NameKept = (item : Item) → Contains (item_places item) (name_place item)
 
--- the places of the name of a module and of the names of its items rise
+-- the places of the name of a module, of its version and of the names of its items rise
 abbrev pub NamesRise : Type 0
 NamesRise = (file : ℕ) (text : List ℕ) (m : Module) →
-    TextIsModule file text m → Rise file (m.name.place ∷ map name_place m.items)
+    TextIsModule file text m →
+    Rise file (m.name.place ∷ version_places m.version ++ map name_place m.items)

@@ -1,14 +1,15 @@
 -- The places that the tree of a module keeps, and what it is for places to rise.
-use Rattle.std.specs.Prelude.{◌≡◌, ◌⊎◌, ◌<◌, ℕ, List, [], ◌∷◌, ◌++◌, map}
+use Rattle.std.specs.Prelude.{◌≡◌, ◌⊎◌, ◌<◌, ℕ, List, [], ◌∷◌, ◌++◌, map, Option}
 use Rattle.std.specs.List.{All, AllPairs}
 use Rattle.hilti_base.specs.declared.names.Place.{Place}
 use Rattle.hilti_lexer.specs.declared.token.Token.{Token}
 use Rattle.hilti_grammar.specs.Grammar.{Tree.Nothing, Tree.Spot, Tree.Leaf, Tree.Pair, Tree.Left, Tree.Right}
+use Rattle.hilti_module.specs.declared.types.Number.{Number}
 use Rattle.hilti_module.specs.declared.types.Word.{Word}
 use Rattle.hilti_module.specs.declared.module.Item.{Item}
 use Rattle.hilti_module.specs.declared.module.Item.TheVariants as items
 use Rattle.hilti_reader.specs.Spelled.{ModuleTree}
-use Rattle.hilti_syntax.specs.Items.{item_tree}
+use Rattle.hilti_syntax.specs.Items.{item_tree, version_tree}
 
 -- a place is before another: on an earlier line, or further left on the same line
 abbrev pub IsBefore : Place → Place → Type 0
@@ -41,6 +42,10 @@ places_of = map (λ token. token.place)
 -- the places in a tree, from left to right
 abbrev pub tree_places : ModuleTree → List Place
 tree_places tree = places_of (kept_tokens tree)
+
+-- the place of the version of a module, where it is written
+abbrev pub version_places : Option Number → List Place
+version_places version = tree_places (version_tree version)
 
 -- the places in an item
 abbrev pub item_places : Item → List Place

@@ -26,8 +26,8 @@ pub fn places_rise()
     ensures { PlacesRise }
 {}
 
-/// The places in a module's tree are those of its name and then those of its items, one item behind
-/// another.
+/// The places in a module's tree are those of its name, then that of its version where it is written,
+/// and then those of its items, one item behind another.
 pub fn items_in_turn()
     ensures { ItemsInTurn }
 {}
@@ -42,7 +42,7 @@ pub fn name_kept()
     ensures { NameKept }
 {}
 
-/// The places of the name of a module and of the names of its items rise.
+/// The places of the name of a module, of its version and of the names of its items rise.
 pub fn names_rise()
     ensures { NamesRise }
 {}

@@ -10,8 +10,6 @@ pub mod laws;
 mod pool;
 mod queries;
 mod seat;
-#[cfg(test)]
-mod tests;
 mod work;
 
 pub use entries::{Entry, Subject};

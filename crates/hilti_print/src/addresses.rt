@@ -4,13 +4,8 @@ ghost use Rattle.std.specs.Net.Text.{groups_text, hex, hex_groups_text};
 ghost use Rattle.hilti_print.specs.Addresses.{address_text, groups_of, ipv4_text, net_text, port_text};
 
 use crate::text::{hex_digit, number};
+use hilti_addr::{bits_above, is_mapped};
 use hilti_base::{Blob, NoMemory};
-
-/// What an IPv4 address has above its 32 bits.
-const MAPPED: u128 = 0xffff;
-
-/// How many bits of a net's length lie above those of an IPv4 address.
-const ABOVE_IPV4: u8 = 96;
 
 /// An address of 128 bits: `10.0.0.1` where it is `::ffff:10.0.0.1`, and else as `2001:db8::1`, in groups of lower-case
 /// hexadecimal digits without leading zeros, with `::` for the first of the longest runs of two zero groups or more.
@@ -18,7 +13,7 @@ const ABOVE_IPV4: u8 = 96;
 pub fn address(out: &mut Blob, a: u128) -> Result<(), NoMemory>
     ensures { OnOk result (out.new ≡ out.old ++ address_text a) }
 {
-    if a >> 32 == MAPPED {
+    if is_mapped(a) {
         dotted(out, a)
     } else {
         shortened(out, &groups(a))
@@ -33,11 +28,7 @@ pub fn net(out: &mut Blob, addr: u128, len: u8) -> Result<(), NoMemory>
 {
     address(out, addr)?;
     out.append(b"/")?;
-    let counted = if addr >> 32 == MAPPED {
-        len.saturating_sub(ABOVE_IPV4)
-    } else {
-        len
-    };
+    let counted = len.saturating_sub(bits_above(addr));
     number(out, u64::from(counted))
 }
 

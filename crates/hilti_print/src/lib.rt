@@ -3,9 +3,8 @@
 #![tactic(auto)]
 
 mod addresses;
+pub mod laws;
 mod shapes;
-#[cfg(test)]
-mod tests;
 mod text;
 mod value;
 

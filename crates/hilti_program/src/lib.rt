@@ -4,7 +4,5 @@
 mod exceptions;
 mod names;
 mod program;
-#[cfg(test)]
-mod tests;
 
 pub use program::Program;

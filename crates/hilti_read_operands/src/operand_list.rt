@@ -16,7 +16,7 @@ use hilti_read_literals::{TIME_WORDS, read_seconds};
 use hilti_reader::{Cursor, Stop, read_open_paren};
 
 /// What begins operands other than groups and those that begin with `time` or `interval`.
-const OTHERS: [Kind; 34] = [
+const OTHERS: [Kind; 35] = [
     Kind::Number,
     Kind::Address,
     Kind::NetNumber,
@@ -50,6 +50,7 @@ const OTHERS: [Kind; 34] = [
     Kind::At,
     Kind::Unpack,
     Kind::Priority,
+    Kind::Version,
     Kind::BytesForm,
 ];
 

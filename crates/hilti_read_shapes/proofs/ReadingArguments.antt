@@ -18,7 +18,7 @@ use Rattle.hilti_reader.proofs.Exits.{Goes}
 
 -- the words that begin types
 abbrev pub type_words : List Kind
-type_words = kinds.Word ∷ kinds.At ∷ kinds.Unpack ∷ kinds.Priority ∷ kinds.BytesForm ∷ kinds.Ref ∷ kinds.Iterator ∷ kinds.Tuple ∷ kinds.Int ∷ kinds.Bool ∷ kinds.String ∷ kinds.Bytes ∷ kinds.Addr ∷ kinds.Net ∷ kinds.Port ∷ kinds.Time ∷ kinds.Interval ∷ kinds.Callable ∷ []
+type_words = kinds.Word ∷ kinds.At ∷ kinds.Unpack ∷ kinds.Priority ∷ kinds.Version ∷ kinds.BytesForm ∷ kinds.Ref ∷ kinds.Iterator ∷ kinds.Tuple ∷ kinds.Int ∷ kinds.Bool ∷ kinds.String ∷ kinds.Bytes ∷ kinds.Addr ∷ kinds.Net ∷ kinds.Port ∷ kinds.Time ∷ kinds.Interval ∷ kinds.Callable ∷ []
 
 first_types : (told_rules parameters).first ≡ type_words
 unfolding told_rules

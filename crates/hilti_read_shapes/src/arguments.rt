@@ -11,11 +11,12 @@ use hilti_module::Parameters;
 use hilti_reader::{Cursor, Stop};
 
 /// Words that begin types.
-pub const TYPES: [Kind; 18] = [
+pub const TYPES: [Kind; 19] = [
     Kind::Word,
     Kind::At,
     Kind::Unpack,
     Kind::Priority,
+    Kind::Version,
     Kind::BytesForm,
     Kind::Ref,
     Kind::Iterator,

@@ -14,7 +14,13 @@ use hilti_read_types::read_type;
 use hilti_reader::{Cursor, Stop};
 
 /// Words of a form other than `Bytes`.
-const OTHER_FORMS: [Kind; 4] = [Kind::Word, Kind::At, Kind::Unpack, Kind::Priority];
+const OTHER_FORMS: [Kind; 5] = [
+    Kind::Word,
+    Kind::At,
+    Kind::Unpack,
+    Kind::Priority,
+    Kind::Version,
+];
 
 /// Reads fields with commas between them.
 pub fn read_fields(cursor: &mut Cursor) -> Result<Fields, Stop>

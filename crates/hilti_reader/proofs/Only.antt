@@ -10,7 +10,7 @@ use Rattle.hilti_reader.specs.Modules.{grammar}
 
 -- kinds of one number are one kind
 all_kinds : List Kind
-all_kinds = kinds.Module ∷ kinds.Type ∷ kinds.Global ∷ kinds.Hook ∷ kinds.Local ∷ kinds.Catch ∷ kinds.Void ∷ kinds.Struct ∷ kinds.Enum ∷ kinds.Overlay ∷ kinds.Exception ∷ kinds.Bool ∷ kinds.Int ∷ kinds.String ∷ kinds.Bytes ∷ kinds.Addr ∷ kinds.Net ∷ kinds.Port ∷ kinds.Time ∷ kinds.Interval ∷ kinds.Callable ∷ kinds.Tuple ∷ kinds.Iterator ∷ kinds.Ref ∷ kinds.Timer ∷ kinds.TimerMgr ∷ kinds.List ∷ kinds.Vector ∷ kinds.Set ∷ kinds.Map ∷ kinds.Classifier ∷ kinds.True ∷ kinds.False ∷ kinds.Null ∷ kinds.At ∷ kinds.Unpack ∷ kinds.Priority ∷ kinds.BytesForm ∷ kinds.Word ∷ kinds.Number ∷ kinds.Decimal ∷ kinds.Address ∷ kinds.NetNumber ∷ kinds.PortNumber ∷ kinds.Text ∷ kinds.BytesText ∷ kinds.OpenBrace ∷ kinds.CloseBrace ∷ kinds.OpenParen ∷ kinds.CloseParen ∷ kinds.Less ∷ kinds.Greater ∷ kinds.Comma ∷ kinds.Colon ∷ kinds.Scope ∷ kinds.Dot ∷ kinds.Equals ∷ kinds.AtSign ∷ kinds.Star ∷ kinds.LineEnd ∷ kinds.DeepLess ∷ []
+all_kinds = kinds.Module ∷ kinds.Type ∷ kinds.Global ∷ kinds.Hook ∷ kinds.Local ∷ kinds.Catch ∷ kinds.Void ∷ kinds.Struct ∷ kinds.Enum ∷ kinds.Overlay ∷ kinds.Exception ∷ kinds.Bool ∷ kinds.Int ∷ kinds.String ∷ kinds.Bytes ∷ kinds.Addr ∷ kinds.Net ∷ kinds.Port ∷ kinds.Time ∷ kinds.Interval ∷ kinds.Callable ∷ kinds.Tuple ∷ kinds.Iterator ∷ kinds.Ref ∷ kinds.Timer ∷ kinds.TimerMgr ∷ kinds.List ∷ kinds.Vector ∷ kinds.Set ∷ kinds.Map ∷ kinds.Classifier ∷ kinds.True ∷ kinds.False ∷ kinds.Null ∷ kinds.At ∷ kinds.Unpack ∷ kinds.Priority ∷ kinds.Version ∷ kinds.BytesForm ∷ kinds.Word ∷ kinds.Number ∷ kinds.Decimal ∷ kinds.Address ∷ kinds.NetNumber ∷ kinds.PortNumber ∷ kinds.Text ∷ kinds.BytesText ∷ kinds.OpenBrace ∷ kinds.CloseBrace ∷ kinds.OpenParen ∷ kinds.CloseParen ∷ kinds.Less ∷ kinds.Greater ∷ kinds.Comma ∷ kinds.Colon ∷ kinds.Scope ∷ kinds.Dot ∷ kinds.Equals ∷ kinds.AtSign ∷ kinds.Star ∷ kinds.LineEnd ∷ kinds.DeepLess ∷ []
 
 in_place : (kind : Kind) → get_or all_kinds (kind_number kind) kinds.DeepLess ≡ kind
 unfolding all_kinds
@@ -51,6 +51,7 @@ in_place kinds.Null = refl
 in_place kinds.At = refl
 in_place kinds.Unpack = refl
 in_place kinds.Priority = refl
+in_place kinds.Version = refl
 in_place kinds.BytesForm = refl
 in_place kinds.Word = refl
 in_place kinds.Number = refl

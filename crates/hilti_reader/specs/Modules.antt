@@ -74,11 +74,12 @@ rule_index LiteralText = 23
 
 -- words that may be names
 abbrev pub words : List Kind
-words = kinds.Word ∷ kinds.At ∷ kinds.Unpack ∷ kinds.Priority ∷ kinds.BytesForm ∷ []
+words =
+    kinds.Word ∷ kinds.At ∷ kinds.Unpack ∷ kinds.Priority ∷ kinds.Version ∷ kinds.BytesForm ∷ []
 
 -- words of a form other than `Bytes`
 abbrev pub other_forms : List Kind
-other_forms = kinds.Word ∷ kinds.At ∷ kinds.Unpack ∷ kinds.Priority ∷ []
+other_forms = kinds.Word ∷ kinds.At ∷ kinds.Unpack ∷ kinds.Priority ∷ kinds.Version ∷ []
 
 -- reserved words but `local`
 abbrev pub reserved_words : List Kind
@@ -220,7 +221,10 @@ parent = mark kinds.Colon ▹ Rule NameText
 abbrev pub exception_text : Symbol Kind RuleName
 exception_text = kept_one kinds.Exception ▹ maybe parent
 
--- the value of a global, and the priority of a hook
+-- the version of a module, the value of a global, and the priority of a hook
+abbrev pub a_version : Symbol Kind RuleName
+a_version = mark kinds.Version ▹ number
+
 abbrev pub a_value : Symbol Kind RuleName
 a_value = mark kinds.Equals ▹ Rule LiteralText
 
@@ -233,7 +237,8 @@ a_result = mark kinds.Void ⊕ Rule TypeText
 
 -- what each rule says
 abbrev pub rule : RuleName → Symbol Kind RuleName
-rule ModuleText = mark kinds.Module ▹ (word ▹ (line_end ▹ Many (Rule ItemText)))
+rule ModuleText =
+    mark kinds.Module ▹ (word ▹ (maybe a_version ▹ (line_end ▹ Many (Rule ItemText))))
 rule ItemText =
     (mark kinds.Type ▹ (word ▹ (mark kinds.Equals ▹ (Rule ShapeText ▹ line_end))))
     ⊕ ((mark kinds.Global ▹ (typed_word ▹ (maybe a_value ▹ line_end)))

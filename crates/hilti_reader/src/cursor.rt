@@ -20,11 +20,12 @@ use std::collections::VecDeque;
 use std::marker::Model;
 
 /// Words that may be names.
-pub const WORDS: [Kind; 5] = [
+pub const WORDS: [Kind; 6] = [
     Kind::Word,
     Kind::At,
     Kind::Unpack,
     Kind::Priority,
+    Kind::Version,
     Kind::BytesForm,
 ];
 

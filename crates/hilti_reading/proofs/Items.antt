@@ -28,14 +28,14 @@ use Rattle.hilti_reading.proofs.Types.{one_type}
 abbrev value_behind : Literal → ModuleTree
 value_behind literal = behind_mark (literal_tree literal)
 
-abbrev number_behind : Number → ModuleTree
+abbrev pub number_behind : Number → ModuleTree
 number_behind number = behind_mark (number_tree number)
 
 value_one : (a b : Literal) → value_behind a ≡ value_behind b → a ≡ b
 value_one a b e = literal_one a b (let here : literal_tree a ≡ literal_tree b = cc in here)
 
-priority_one : (a b : Number) → number_behind a ≡ number_behind b → a ≡ b
-priority_one a b e = number_one a b (let here : number_tree a ≡ number_tree b = cc in here)
+pub number_behind_one : (a b : Number) → number_behind a ≡ number_behind b → a ≡ b
+number_behind_one a b e = number_one a b (let here : number_tree a ≡ number_tree b = cc in here)
 
 result_one : (a b : Option TypeText) → result_tree a ≡ result_tree b → a ≡ b
 result_one None None e = refl
@@ -45,7 +45,7 @@ result_one (Some a) (Some b) e = ap Some (one_type a b (let here : type_tree a �
 
 hook_one : (p q : Option Number) (a b : Body) → Fits grammar (Rule hook_body) (hook_tree p a) → hook_tree p a ≡ hook_tree q b → (p ≡ q) × (a ≡ b)
 hook_one p q a b h e = (
-  maybe_one number_behind priority_one p q (let here : maybe_tree number_behind p ≡ maybe_tree number_behind q = cc in here),
+  maybe_one number_behind number_behind_one p q (let here : maybe_tree number_behind p ≡ maybe_tree number_behind q = cc in here),
   body_one a b (fits_both grammar _ _ _ _ (fits_rule grammar hook_body _ h)).1 (let here : body_tree a ≡ body_tree b = cc in here),
 )
 

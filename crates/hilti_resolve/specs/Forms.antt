@@ -19,6 +19,9 @@ width_of word =
     (cond (bytes_eq word (codes "U32Little")) (Some 32)
     (cond (bytes_eq word (codes "U64Little")) (Some 64) None))))))
 
+abbrev pub is_address_form : List ℕ → Bool
+is_address_form word = cond (bytes_eq word (codes "IPv4")) true (bytes_eq word (codes "IPv6"))
+
 abbrev pub is_port_form : List ℕ → Bool
 is_port_form word = cond (bytes_eq word (codes "PortTCP")) true (bytes_eq word (codes "PortUDP"))
 
@@ -60,7 +63,7 @@ without_bits true (Some range) = None
 abbrev pub word_form : ValueType → List ℕ → Option ℕ → Option Bits → Option FieldForm
 word_form kind word (Some width) bits = cond (is_int width kind) (bits_in width bits) None
 word_form kind word None bits =
-    cond (bytes_eq word (codes "IPv4")) (without_bits (is_addr kind) bits)
+    cond (is_address_form word) (without_bits (is_addr kind) bits)
     (without_bits (is_port_form word && is_port kind) bits)
 
 -- the form of a field of this type, or none where it breaks the rules: a form of numbers asks for

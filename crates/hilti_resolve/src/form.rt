@@ -111,11 +111,18 @@ fn bits_in(width: u8, bits: &Option<Bits>) -> Option<FieldForm>
 fn plain_form(kind: &ValueType, word: &[u8], bits: &Option<Bits>) -> Option<FieldForm>
     ensures { result ≡ forms.word_form kind.now word.now None bits.now }
 {
-    if word == b"IPv4".as_slice() {
+    if is_address_form(word) {
         without_bits(matches!(kind, ValueType::Addr), bits)
     } else {
         without_bits(is_port_form(word) && matches!(kind, ValueType::Port), bits)
     }
+}
+
+/// Whether a word is a form of addresses.
+fn is_address_form(word: &[u8]) -> bool
+    ensures { result ≡ forms.is_address_form word.now }
+{
+    word == b"IPv4".as_slice() || word == b"IPv6".as_slice()
 }
 
 /// Whether a word is a form of ports.

@@ -7,8 +7,6 @@ mod numbers;
 mod row;
 mod sources;
 mod structs;
-#[cfg(test)]
-mod tests;
 
 pub use instructions::resolve;
 pub use row::{Binary, Printed, PrintedItems, Row, Source, Sources, StructRow, Unary};

@@ -4,8 +4,6 @@
 mod comparing;
 mod computing;
 mod operands;
-#[cfg(test)]
-mod tests;
 
 pub use computing::{Made, compute_binary, compute_unary};
 pub use operands::{truth, whole};

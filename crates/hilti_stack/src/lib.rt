@@ -6,8 +6,6 @@
 mod head;
 pub mod laws;
 mod stack;
-#[cfg(test)]
-mod tests;
 
 pub use head::{Head, Position};
 pub use stack::Stack;

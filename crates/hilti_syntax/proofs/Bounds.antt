@@ -14,6 +14,7 @@ use Rattle.hilti_lexer.proofs.Places.{gap_within}
 use Rattle.hilti_kinds.specs.declared.kind.Kind.{Kind}
 use Rattle.hilti_kinds.specs.declared.piece.Piece.{Piece}
 use Rattle.hilti_module.specs.declared.module.Item.{Item}
+use Rattle.hilti_module.specs.declared.types.Number.{Number}
 use Rattle.hilti_module.specs.declared.types.Word.{Word}
 use Rattle.hilti_module.specs.Counts.{module_count}
 use Rattle.hilti_kinds.specs.Kinds.{kind_of}
@@ -23,7 +24,7 @@ use Rattle.hilti_reader.specs.Spelled.{word_tree, behind_mark}
 use Rattle.hilti_syntax.proofs.Counting.{whole_module}
 use Rattle.hilti_reader.proofs.Exits.{Goes}
 use Rattle.hilti_reader.proofs.Kept.{reading_is_exact}
-use Rattle.hilti_syntax.specs.Items.{items_tree}
+use Rattle.hilti_syntax.specs.Items.{items_tree, version_tree}
 
 -- a token takes a byte at least
 token_takes : (text rest : List ℕ) (kind : TokenKind) → Stands text kind rest → length rest < length text
@@ -64,8 +65,8 @@ pieces_within file text tokens end_place most pieces lexed short e =
     )
 
 -- a module that was read from so many pieces
-pub module_within : (name : Word) (inside : List Item) (before after : List Piece) (most : ℕ) → length before ≤ most + 1 →
-    Goes (Rule ModuleText) before (Done (behind_mark (Pair (word_tree name) (behind_mark (items_tree inside)))) after) → module_count inside ≤ most
-module_within name inside before after most short goes =
-    let exact = reading_is_exact ModuleText before (Done (behind_mark (Pair (word_tree name) (behind_mark (items_tree inside)))) after) goes in
-    omega (arith, short, ap length exact.split, length-append exact.used after, (whole_module name inside).least exact.used exact.derives)
+pub module_within : (name : Word) (version : Option Number) (inside : List Item) (before after : List Piece) (most : ℕ) → length before ≤ most + 1 →
+    Goes (Rule ModuleText) before (Done (behind_mark (Pair (word_tree name) (Pair (version_tree version) (behind_mark (items_tree inside))))) after) → module_count inside ≤ most
+module_within name version inside before after most short goes =
+    let exact = reading_is_exact ModuleText before (Done (behind_mark (Pair (word_tree name) (Pair (version_tree version) (behind_mark (items_tree inside))))) after) goes in
+    omega (arith, short, ap length exact.split, length-append exact.used after, (whole_module name version inside).least exact.used exact.derives)

@@ -24,7 +24,7 @@ use Rattle.hilti_module.specs.declared.module.Item.TheVariants as items
 use Rattle.hilti_module.specs.Counts.{operand_count, line_count, body_count, shape_count, item_count, module_count}
 use Rattle.hilti_read_literals.specs.Literals.{TimePart, time_part}
 use Rattle.hilti_read_operands.specs.Operands.{other_tree, simple_tree, group_tree, operand_of, operands_tree}
-use Rattle.hilti_syntax.specs.Items.{is_reserved, instruction_tree, behind_first_word, behind_target, handler_tree, line_tree, local_tree, body_tree, behind_hook, hook_tree, item_tree, items_tree}
+use Rattle.hilti_syntax.specs.Items.{is_reserved, instruction_tree, behind_first_word, behind_target, handler_tree, line_tree, local_tree, body_tree, behind_hook, hook_tree, item_tree, items_tree, version_tree}
 use Rattle.hilti_read_shapes.specs.Shapes.{parameter_tree, inside_tree, arguments_tree, field_tree, shape_tree}
 use Rattle.hilti_reader.specs.Modules.{RuleName, RuleName.ModuleText, RuleName.ItemText, RuleName.HookRest, RuleName.HookBody, RuleName.Arguments, RuleName.Params, RuleName.ShapeText, RuleName.FieldText, RuleName.BodyText, RuleName.LineText, RuleName.AfterWord, RuleName.InstructionText, RuleName.Operands, RuleName.OperandsBehindTime, RuleName.GroupText, RuleName.SimpleText, RuleName.OtherSimple, RuleName.Parametric, RuleName.Container, RuleName.NameText, word, comma, maybe, typed_word, time_words, handler, local_line}
 use Rattle.hilti_reader.specs.Spelled.{ModuleTree, word_tree, behind_mark}
@@ -142,7 +142,8 @@ an_item (items.Hook name parameters) = by_rule ItemText (right (right (left (sec
 an_item (items.HookBody name parameters priority body) = by_rule ItemText (right (right (left (second (both one (hook_rest name.second parameters priority body))))))
 an_item (items.Function result name parameters body) = by_rule ItemText (right (right (right (second (both one (both (arguments parameters) (a_body body)))))))
 
--- a module has at least its first three pieces and those of its items
-pub whole_module : (name : Word) (inside : List Item) → AtLeast (3 + module_count inside) (Rule ModuleText) (behind_mark (Pair (word_tree name) (behind_mark (items_tree inside))))
-whole_module name inside =
-    fewer (3 + module_count inside) (omega arith) (by_rule ModuleText (both one (both one (both one (many (Rule ItemText) item_tree item_count an_item inside)))))
+-- a module has at least the pieces `module`, its name and the end of their line, and those of its items
+pub whole_module : (name : Word) (version : Option Number) (inside : List Item) →
+    AtLeast (3 + module_count inside) (Rule ModuleText) (behind_mark (Pair (word_tree name) (Pair (version_tree version) (behind_mark (items_tree inside)))))
+whole_module name version inside =
+    fewer (3 + module_count inside) (omega arith) (by_rule ModuleText (both one (both one (second (both one (many (Rule ItemText) item_tree item_count an_item inside))))))

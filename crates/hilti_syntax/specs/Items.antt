@@ -86,6 +86,10 @@ body_tree body =
     behind_mark (behind_mark (Pair (locals_tree body.locals) (Pair (lines_tree body.lines)
     (Pair (marked_at body.close 125) Nothing))))
 
+-- the version of a module, where it is written
+abbrev pub version_tree : Option Number → ModuleTree
+version_tree = maybe_number
+
 -- the priority and the body of a hook
 abbrev pub priority_tree : Option Number → ModuleTree
 priority_tree = maybe_number
@@ -133,7 +137,9 @@ abbrev pub items_tree : List Item → ModuleTree
 items_tree items = list_tree (map item_tree items)
 
 abbrev pub module_tree : Module → ModuleTree
-module_tree m = behind_mark (Pair (word_tree m.name) (behind_mark (items_tree m.items)))
+module_tree m =
+    behind_mark (Pair (word_tree m.name)
+    (Pair (version_tree m.version) (behind_mark (items_tree m.items))))
 
 -- these pieces are a module with this tree
 abbrev pub IsModule : List Piece → Module → Type 0

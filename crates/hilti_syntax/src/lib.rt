@@ -7,7 +7,5 @@ mod read_hooks;
 mod read_instructions;
 mod read_items;
 mod read_lines;
-#[cfg(test)]
-mod tests;
 
 pub use module_text::read_module;

@@ -1,10 +1,10 @@
 //! The reader of a module's whole text.
-ghost use Rattle.std.specs.Prelude.{◌≡◌, ◌≤◌, length, IfOk, Err};
+ghost use Rattle.std.specs.Prelude.{◌≡◌, ◌≤◌, length, IfOk, OnOk, Err};
 ghost use Rattle.hilti_grammar.specs.Grammar.{Symbol.Rule};
 ghost use Rattle.hilti_base.specs.declared.names.Place.{Place};
 ghost use Rattle.hilti_reader.specs.declared.stop.Stop.{Stop};
-ghost use Rattle.hilti_syntax.specs.Items.{module_tree};
-ghost use Rattle.hilti_reader.specs.Modules.{RuleName.ModuleText as a_module};
+ghost use Rattle.hilti_syntax.specs.Items.{module_tree, version_tree};
+ghost use Rattle.hilti_reader.specs.Modules.{RuleName.ModuleText as a_module, a_version, maybe};
 ghost use Rattle.hilti_reader.specs.Readers.{ReadsTree};
 ghost use Rattle.hilti_syntax.specs.Texts.{TextIsModule, RefusedText, ReadsModule, RefusesPieces, IsRefusalOf};
 
@@ -12,7 +12,7 @@ use crate::read_items::read_items;
 use hilti_base::{Place, Refusal};
 use hilti_kinds::Kind;
 use hilti_lexer::lex;
-use hilti_module::Module;
+use hilti_module::{Module, Number};
 use hilti_pieces::{end_place, pieces};
 use hilti_reader::{Cursor, Stop};
 use std::alloc::Global;
@@ -56,9 +56,27 @@ fn read_whole(cursor: &mut Cursor) -> Result<Module, Stop>
 {
     cursor.skip(Kind::Module)?;
     let name = cursor.word()?;
+    let version = read_version(cursor)?;
     cursor.skip(Kind::LineEnd)?;
     let items = read_items(cursor)?;
-    Ok(Module { name, items })
+    Ok(Module {
+        name,
+        version,
+        items,
+    })
+}
+
+/// Reads the version of a module, if one is there.
+fn read_version(cursor: &mut Cursor) -> Result<Option<Number>, Stop>
+    ensures reads { ReadsTree (maybe a_version) version_tree cursor.old result cursor.new }
+    ensures shorter { OnOk result (length cursor.new ≤ length cursor.old) }
+{
+    if !cursor.sees(&[Kind::Version]) {
+        return Ok(None);
+    }
+    cursor.skip(Kind::Version)?;
+    let found = cursor.number()?;
+    Ok(Some(found))
 }
 
 /// The refusal of tokens where reading stopped.

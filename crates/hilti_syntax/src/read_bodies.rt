@@ -12,11 +12,12 @@ use hilti_read_shapes::read_parameter;
 use hilti_reader::{Cursor, Stop, read_close_brace};
 
 /// What begins a line: a word, reserved or not, or the `@` of a label.
-const LINE_STARTS: [Kind; 39] = [
+const LINE_STARTS: [Kind; 40] = [
     Kind::Word,
     Kind::At,
     Kind::Unpack,
     Kind::Priority,
+    Kind::Version,
     Kind::BytesForm,
     Kind::Module,
     Kind::Type,

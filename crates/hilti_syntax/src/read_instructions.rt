@@ -14,11 +14,12 @@ use hilti_read_operands::read_operands;
 use hilti_reader::{Cursor, Stop};
 
 /// Any words, reserved ones too.
-const ANY_WORDS: [Kind; 39] = [
+const ANY_WORDS: [Kind; 40] = [
     Kind::Word,
     Kind::At,
     Kind::Unpack,
     Kind::Priority,
+    Kind::Version,
     Kind::BytesForm,
     Kind::Local,
     Kind::Module,

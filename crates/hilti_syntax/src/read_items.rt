@@ -15,11 +15,12 @@ use hilti_read_types::read_type;
 use hilti_reader::{Cursor, Stop};
 
 /// What begins an item: a word or what else begins a type, `void`, `hook`, `global` or `type`.
-const ITEM_STARTS: [Kind; 22] = [
+const ITEM_STARTS: [Kind; 23] = [
     Kind::Word,
     Kind::At,
     Kind::Unpack,
     Kind::Priority,
+    Kind::Version,
     Kind::BytesForm,
     Kind::Ref,
     Kind::Iterator,

@@ -6,8 +6,6 @@ pub mod laws;
 mod mnemonics;
 mod row;
 mod rows;
-#[cfg(test)]
-mod tests;
 mod versions;
 
 pub use mnemonics::op_of;

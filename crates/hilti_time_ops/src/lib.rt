@@ -5,8 +5,6 @@ mod arithmetic;
 mod computing;
 mod operands;
 mod operations;
-#[cfg(test)]
-mod tests;
 
 pub use computing::{compute_binary, compute_unary};
 pub use operations::{TimeBinary, TimeUnary};

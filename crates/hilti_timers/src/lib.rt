@@ -3,7 +3,5 @@
 #![tactic(auto)]
 
 mod manager;
-#[cfg(test)]
-mod tests;
 
 pub use manager::Manager;

@@ -7,8 +7,6 @@ mod modules;
 mod output;
 mod run;
 mod status;
-#[cfg(test)]
-mod tests;
 
 pub use call::hilti_call;
 pub use status::Status;

@@ -4,8 +4,6 @@
 mod call;
 mod copies;
 mod sizes;
-#[cfg(test)]
-mod tests;
 mod tree;
 
 pub use call::{Call, Calls};

@@ -5,8 +5,6 @@
 mod journalled;
 mod pass;
 mod plays;
-#[cfg(test)]
-mod tests;
 mod turn;
 mod view;
 

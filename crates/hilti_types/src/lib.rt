@@ -9,8 +9,6 @@ pub mod laws;
 mod op;
 mod sendability;
 mod table;
-#[cfg(test)]
-mod tests;
 mod value_type;
 
 pub use declared::{Declared, Member, Members, OverlayField, OverlayFields};

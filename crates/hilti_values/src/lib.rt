@@ -6,8 +6,6 @@ mod literal;
 mod reference;
 mod shared_bytes;
 mod sharing;
-#[cfg(test)]
-mod tests;
 mod value;
 
 pub use first::{first_value, first_values};

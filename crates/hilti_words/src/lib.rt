@@ -7,8 +7,6 @@ mod name;
 mod options;
 mod reader;
 mod setting;
-#[cfg(test)]
-mod tests;
 mod words;
 
 pub use command::{Command, WordsFault};

@@ -1,5 +1,5 @@
-use Rattle.hilti_addr.proofs.Forms as forms
+use Rattle.hilti_addr.proofs.Texts as texts
 use Rattle.hilti_addr.proofs.laws.one_address.Goals as goal
 
 pub returns : goal.returns
-returns c = forms.one_address
+returns c = texts.one_address

@@ -1,5 +1,5 @@
-use Rattle.hilti_addr.proofs.Forms as forms
+use Rattle.hilti_addr.proofs.Texts as texts
 use Rattle.hilti_addr.proofs.laws.one_net.Goals as goal
 
 pub returns : goal.returns
-returns c = forms.one_net
+returns c = texts.one_net

@@ -87,8 +87,8 @@ returns-clause-tables c = λ seen context stands same.
     (record { front_are = c.as_slice.ensures; others_are = c.as_slice-2.ensures }) (c.in_ok-inside.ensures seen stands context.declarations_are) same in
     behind_body seen c.args.tables.now c.in_ok-inside.inside c.args.parameters.now c.args.body.now c.as_slice-3.result.now c.as_slice-4.result.now
     (record { front_are = c.as_slice-3.ensures; others_are = c.as_slice-4.ensures }) inside
-    c.args.name.now _ _ None c.push.new.self c.site.result c.in_ok-shown.field-0 c.len.result c.in_ok-slots.slots c.in_ok-result.result None same c.in_ok-push.ensures.ok
-    (c.site.ensures seen stands) (c.in_ok-shown.ensures seen stands) c.len.ensures c.in_ok-slots.ensures.kinds
+    c.args.name.now _ _ None c.push.new.self c.site.result c.in_ok-shown.field-0 c.len.result c.args.standing.now.version c.in_ok-slots.slots c.in_ok-result.result None same c.in_ok-push.ensures.ok
+    (c.site.ensures seen stands) (c.in_ok-shown.ensures seen stands) stands.version_is c.len.ensures c.in_ok-slots.ensures.kinds
     (result_is seen c.args.tables.now c.scope-scope.result c.args.returns.now c.args.name.now c.args.parameters.now c.args.body.now sees same c.in_ok-result.result c.in_ok-result.ensures.kind)
     refl
     ∙ behind seen c.args.returns.now c.args.name.now c.args.parameters.now c.args.body.now

@@ -87,8 +87,8 @@ returns-clause-tables c = λ priority seen context stands same.
     (record { front_are = c.as_slice.ensures; others_are = c.as_slice-2.ensures }) (c.in_ok-inside.ensures seen stands context.declarations_are) same in
     behind_body seen c.args.tables.now c.in_ok-inside.inside c.args.parameters.now c.args.body.now c.as_slice-4.result.now c.as_slice-5.result.now
     (record { front_are = c.as_slice-4.ensures; others_are = c.as_slice-5.ensures }) inside
-    c.args.name.now.first _ None _ c.push.new.self c.site.result c.in_ok-shown_name.field-0 c.len.result c.in_ok-slots.slots None c.in_ok-hook.hook same c.in_ok-push.ensures.ok
-    (c.site.ensures seen stands) (c.in_ok-shown_name.ensures seen stands) c.len.ensures c.in_ok-slots.ensures.kinds refl
+    c.args.name.now.first _ None _ c.push.new.self c.site.result c.in_ok-shown_name.field-0 c.len.result c.args.standing.now.version c.in_ok-slots.slots None c.in_ok-hook.hook same c.in_ok-push.ensures.ok
+    (c.site.ensures seen stands) (c.in_ok-shown_name.ensures seen stands) stands.version_is c.len.ensures c.in_ok-slots.ensures.kinds refl
     (c.in_ok-hook.ensures.hook ∙ ap hook_number (meant seen c.scope.result c.args.name.now c.meaning-meaning.result plain c.meaning-meaning.ensures))
     ∙ behind seen c.args.name.now c.args.parameters.now priority c.args.body.now
 

@@ -18,7 +18,7 @@ returns-in_err-link_item-clause-refusal c = λ seen context enters is.
     answers_given c.from_residual.result e _ c.from_residual.ensures.0 c.from_residual.ensures.1
     (items_refuse seen m at tables item e (lent_below lent m.items at c.as_slice-item-items.ensures c.loop-at-test.true) (lent_is lent m.items at item c.as_slice-item-items.ensures c.item-item.is) so.0 so.1
     (c.in_err-link_item.ensures.refusal so.0 (context_so seen m at tables so.0 so.1 c.args.context.now context)
-    (stands_so seen m c.args.file c.args.here at tables so.0 so.1 enters _ c.bytes.ensures refl refl refl) so.1.tables_are))
+    (stands_so seen m c.args.file c.args.here at tables so.0 so.1 enters _ c.bytes.ensures c.version_of-version.ensures refl refl refl) so.1.tables_are))
 
 pub loop-at-preserved : goal.loop-at-preserved
 loop-at-preserved c = λ seen context enters is.
@@ -30,8 +30,8 @@ loop-at-preserved c = λ seen context enters is.
     let lent = c.as_slice-item-items.result.now in
     let known = context_so seen m at tables so.0 so.1 c.args.context.now context in
     items_more seen m at tables c.link_item.new.tables item (lent_below lent m.items at c.as_slice-item-items.ensures c.loop-at-test.true) (lent_is lent m.items at item c.as_slice-item-items.ensures c.item-item.is) so.0 so.1
-    (c.in_ok-link_item.ensures.refusal so.0 known (stands_so seen m c.args.file c.args.here at tables so.0 so.1 enters _ c.bytes.ensures refl refl refl) so.1.tables_are)
-    (c.in_ok-link_item.ensures.tables so.0 known (stands_so seen m c.args.file c.args.here at tables so.0 so.1 enters _ c.bytes.ensures refl refl refl) so.1.tables_are)
+    (c.in_ok-link_item.ensures.refusal so.0 known (stands_so seen m c.args.file c.args.here at tables so.0 so.1 enters _ c.bytes.ensures c.version_of-version.ensures refl refl refl) so.1.tables_are)
+    (c.in_ok-link_item.ensures.tables so.0 known (stands_so seen m c.args.file c.args.here at tables so.0 so.1 enters _ c.bytes.ensures c.version_of-version.ensures refl refl refl) so.1.tables_are)
 
 pub returns-clause-tables : goal.returns-clause-tables
 returns-clause-tables c = λ seen context enters is.

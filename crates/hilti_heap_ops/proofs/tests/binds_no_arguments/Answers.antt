@@ -1,6 +1,0 @@
-use Rattle.hilti_heap_ops.proofs.Tested.{none_held}
-use Rattle.hilti_heap_ops.proofs.tests.binds_no_arguments.Goals as goal
-
-pub callable_bind-callable-requires : goal.callable_bind-callable-requires
-callable_bind-callable-requires g c =
-    none_held c.new-heap.result c.new-arguments.result c.new-arguments.ensures

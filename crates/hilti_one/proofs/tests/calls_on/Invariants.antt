@@ -1,7 +1,0 @@
-use Rattle.std.specs.List.{All}
-use Rattle.hilti_core.specs.Countdown.{IsNumber}
-use Rattle.hilti_one.proofs.tests.calls_on.Given as goal
-
--- the calls so far are on numbers
-abbrev pub invariant-loop-number : goal.invariant-loop-number
-invariant-loop-number l = All IsNumber l.calls
