@@ -2,28 +2,8 @@
 #![tactic(auto)]
 
 #[cfg(test)]
-mod bytes_ops;
-#[cfg(test)]
 mod exceptions;
-#[cfg(test)]
-mod heap;
-#[cfg(test)]
-mod heap_ops;
 #[cfg(test)]
 mod machine;
 #[cfg(test)]
-mod network_ops;
-#[cfg(test)]
 mod program;
-#[cfg(test)]
-mod rows;
-#[cfg(test)]
-mod scalar_ops;
-#[cfg(test)]
-mod stack;
-#[cfg(test)]
-mod table;
-#[cfg(test)]
-mod time_ops;
-#[cfg(test)]
-mod values;

@@ -1,6 +1,6 @@
 use Rattle.std.proofs.Common.{arith}
-use Rattle.hilti_machine_tests.proofs.Tested.{made_field, made_held}
-use Rattle.hilti_machine_tests.proofs.heap_ops.a_new_struct_is_unset.Goals as goal
+use Rattle.hilti_row_tests.proofs.Tested.{made_field, made_held}
+use Rattle.hilti_row_tests.proofs.heap_ops.a_new_struct_is_unset.Goals as goal
 
 pub struct_is_set-is_set-requires : goal.struct_is_set-is_set-requires
 struct_is_set-is_set-requires g c =

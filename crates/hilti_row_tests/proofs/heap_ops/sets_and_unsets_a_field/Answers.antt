@@ -1,7 +1,7 @@
 use Rattle.std.proofs.Common.{arith}
 use Rattle.hilti_values.specs.declared.value.Value.TheVariants.{Int}
-use Rattle.hilti_machine_tests.proofs.Tested.{made_field, made_held, made_plain, number_holds_nothing}
-use Rattle.hilti_machine_tests.proofs.heap_ops.sets_and_unsets_a_field.Goals as goal
+use Rattle.hilti_row_tests.proofs.Tested.{made_field, made_held, made_plain, number_holds_nothing}
+use Rattle.hilti_row_tests.proofs.heap_ops.sets_and_unsets_a_field.Goals as goal
 
 pub struct_set-was_set-requires-clause-kind : goal.struct_set-was_set-requires-clause-kind
 struct_set-was_set-requires-clause-kind g c =

@@ -1,5 +1,5 @@
-use Rattle.hilti_machine_tests.proofs.Tested.{none_held}
-use Rattle.hilti_machine_tests.proofs.heap_ops.binds_no_arguments.Goals as goal
+use Rattle.hilti_row_tests.proofs.Tested.{none_held}
+use Rattle.hilti_row_tests.proofs.heap_ops.binds_no_arguments.Goals as goal
 
 pub callable_bind-callable-requires : goal.callable_bind-callable-requires
 callable_bind-callable-requires g c =
