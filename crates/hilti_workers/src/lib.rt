@@ -1,0 +1,8 @@
+//! What workers do with a pool behind a turn lock: each takes a thread, runs one segment of it outside the lock, and
+//! puts it back, until no more is to come.
+#![tactic(auto)]
+
+mod section;
+mod turns;
+
+pub use turns::{Turned, turn, work};
