@@ -27,10 +27,10 @@ module _ {D : Type 0} (effect : D → Effect) (pool : PoolState D) where
   }
 
   limit_of : (c : Core) → IsAtLimit pool.limit c → IsOver pool.limit (entries_of pool) c
-  limit_of c at = record { none_ready = at.none_ready; none_out = at.none_out; no_more = inr at.waits }
+  limit_of c at = record { none_ready = at.none_ready; none_out = at.none_out; no_more = inr at.waits; full = λ _. at.all_started }
 
   finished_of : (c : Core) → IsFinished pool.limit pool.ended c → IsOver pool.limit (entries_of pool) c
-  finished_of c at = record { none_ready = at.none_ready; none_out = at.none_out; no_more = inl (ended_feed pool.ended (entries_from pool.fed pool.journal) at.fed) }
+  finished_of c at = record { none_ready = at.none_ready; none_out = at.none_out; no_more = inl (ended_feed pool.ended (entries_from pool.fed pool.journal) at.fed); full = λ mail. absurd (mail.1 (at.none_waits mail.0)) }
 
   -- the pool with a take more is legal too
   standing_after : (worker : ℕ) (new : PoolState D) (P : Core → Type 0) (job : ThreadId) → IsStanding effect pool → new ≡ after_take worker job pool → InCore effect new P → IsStanding effect new

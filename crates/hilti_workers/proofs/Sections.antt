@@ -41,7 +41,7 @@ all_put w (Ok done) = All-cons (λ e. maker_of e ≡ w) (Put w) [] refl (All-nil
 all_put w (Err error) = All-nil (λ e. maker_of e ≡ w)
 
 -- all of one worker's entries are its own
-made_all : (w : ℕ) (xs : List Entry) → All (λ e. maker_of e ≡ w) xs → made_by maker_of w xs ≡ xs
+pub made_all : (w : ℕ) (xs : List Entry) → All (λ e. maker_of e ≡ w) xs → made_by maker_of w xs ≡ xs
 made_all w [] all = refl
 made_all w (x ∷ xs) all =
     ap (λ b. cond b (x ∷ made_by maker_of w xs) (made_by maker_of w xs)) (eq-eqb (maker_of x) w (All-head (λ e. maker_of e ≡ w) x xs all))

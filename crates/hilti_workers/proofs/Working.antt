@@ -10,19 +10,19 @@ use Rattle.hilti_pool.specs.declared.entries.Entry.TheVariants.{Feed, FeedEnd, T
 use Rattle.hilti_pool.specs.declared.entries.Subject.{Subject}
 use Rattle.hilti_workers.specs.Entries.{takes_in, puts_in, AreEven}
 use Rattle.hilti_workers.specs.Finding.{ShowsOver}
-use Rattle.hilti_workers.specs.Turns.{IsAbout, OfSeen, RanOne, RanAll, Tells}
+use Rattle.hilti_workers.specs.Turns.{IsAbout, OfSeen, RanOne, RanAll, BrokeOff, Tells}
 use Rattle.hilti_workers.specs.declared.turns.Turned.{Turned}
 use Rattle.hilti_workers.specs.declared.turns.Turned.TheVariants.{Ran, Idle, Over}
 use Rattle.hilti_core.specs.Sending.{Effect}
 
-takes-append : (xs ys : List Entry) → takes_in (xs ++ ys) ≡ takes_in xs + takes_in ys
+pub takes-append : (xs ys : List Entry) → takes_in (xs ++ ys) ≡ takes_in xs + takes_in ys
 takes-append [] ys = let same : takes_in ys ≡ 0 + takes_in ys = omega arith in same
 takes-append (Feed call ∷ xs) ys = takes-append xs ys
 takes-append (FeedEnd ∷ xs) ys = takes-append xs ys
 takes-append (Take worker thread ∷ xs) ys = let more = takes-append xs ys in omega (arith, more)
 takes-append (Put worker ∷ xs) ys = takes-append xs ys
 
-puts-append : (xs ys : List Entry) → puts_in (xs ++ ys) ≡ puts_in xs + puts_in ys
+pub puts-append : (xs ys : List Entry) → puts_in (xs ++ ys) ≡ puts_in xs + puts_in ys
 puts-append [] ys = let same : puts_in ys ≡ 0 + puts_in ys = omega arith in same
 puts-append (Feed call ∷ xs) ys = puts-append xs ys
 puts-append (FeedEnd ∷ xs) ys = puts-append xs ys
@@ -66,6 +66,23 @@ module _ {V D : Type 0} where
   -- nothing was made in the last turn
   pub ran_same : (a b c : Pass V Entry (Subject D)) → mine c ≡ mine b → RanAll a b → RanAll a c
   ran_same a b c same (threads, ran) = (threads, same ∙ ran)
+
+module _ {V D : Type 0} (old mid new : Pass V Entry (Subject D)) where
+  -- a take, and then its put
+  pub ran_one : (thread : ThreadId) → number mid ≡ number old → mine mid ≡ mine old ++ Take (number old) thread ∷ [] → mine new ≡ mine mid ++ Put (number mid) ∷ [] → RanOne old new
+  ran_one thread same took put =
+      (thread,
+        put
+        ∙ ap (λ l. l ++ Put (number mid) ∷ []) took
+        ∙ append_assoc (mine old) (Take (number old) thread ∷ []) (Put (number mid) ∷ [])
+        ∙ ap (λ w. mine old ++ Take (number old) thread ∷ Put w ∷ []) same)
+
+  -- a take, and then no put
+  pub broke_later : (thread : ThreadId) → mine mid ≡ mine old ++ Take (number old) thread ∷ [] → mine new ≡ mine mid ++ [] → BrokeOff old new
+  broke_later thread took none = inr (thread, none ∙ append-nil (mine mid) ∙ took)
+
+pub broke_first : {V D : Type 0} (old new : Pass V Entry (Subject D)) → mine new ≡ mine old ++ [] → BrokeOff old new
+broke_first old new none = inl (none ∙ append-nil (mine old))
 
 module _ {V D : Type 0} (effect : D → Effect) (first old new : Pass V Entry (Subject D)) where
   -- what one more turn leaves

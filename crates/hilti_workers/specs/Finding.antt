@@ -1,5 +1,5 @@
 -- What a worker that asks for work finds, by the entries that it then has seen.
-use Rattle.std.specs.Prelude.{ℕ, List, [], ◌∷◌, Result, Ok, Err, ◌⊎◌}
+use Rattle.std.specs.Prelude.{ℕ, List, [], ◌∷◌, length, Result, Ok, Err, ◌≡◌, ◌⊎◌}
 use Rattle.std.specs.List.{Contains}
 use Rattle.hilti_tree.specs.declared.call.Call.{Call}
 use Rattle.hilti_core.specs.Sending.{Effect}
@@ -19,11 +19,13 @@ pub record IsIdle (limit : ℕ) (entries : List Entry) (c : Core) : Type 0 where
   pub none_ready : NoneReady limit c
   pub may_come : SomeOut c ⊎ (NoMail c × ¬ Contains entries FeedEnd)
 
--- no thread is ready or out, and the feed ended or a call waits
+-- no thread is ready or out, and the feed ended or a call waits, which it does only where as many as
+-- may started
 pub record IsOver (limit : ℕ) (entries : List Entry) (c : Core) : Type 0 where
   pub none_ready : NoneReady limit c
   pub none_out : NoneOut c
   pub no_more : Contains entries FeedEnd ⊎ SomeMail c
+  pub full : SomeMail c → length c.started ≡ limit
 
 module _ {D : Type 0} (effect : D → Effect) (subject : Subject D) (entries : List Entry) where
   abbrev pub ShowsIdle : Type 0
