@@ -1,11 +1,12 @@
 -- What the pool's answers tell of the entries.
-use Rattle.std.proofs.Common.{◌≡◌, ℕ, List, [], ◌∷◌, ◌++◌, Some, false, refl, sym, subst, inl, inr}
+use Rattle.std.proofs.Common.{◌≡◌, ℕ, List, [], ◌∷◌, ◌++◌, Some, true, false, refl, sym, subst, inl, inr}
 use Rattle.hilti_base.specs.declared.names.ThreadId.{ThreadId}
 use Rattle.hilti_tree.specs.declared.call.Call.{Call}
 use Rattle.hilti_core.specs.declared.event.Event.TheVariants as events
 use Rattle.hilti_core.specs.Sending.{Effect}
 use Rattle.hilti_core.specs.Core.{Core}
 use Rattle.hilti_core.specs.Body.{Runs}
+use Rattle.hilti_pool.specs.declared.job.Job.{Job as JobOf}
 use Rattle.hilti_pool.specs.declared.job.Taken.{Taken}
 use Rattle.hilti_pool.specs.declared.job.Taken.TheVariants.{Broken, Job, Nothing, Limit, Finished}
 use Rattle.hilti_pool.specs.State.{PoolState, InCore, after_take}
@@ -47,13 +48,25 @@ module _ {D : Type 0} (effect : D → Effect) (pool : PoolState D) where
   found_in sound runs worker new Broken stands cause changes job_is = tt
   found_in sound runs worker new (Job job) stands cause changes job_is =
       shown effect new (IsJob (sound new.about) (runs new.about) worker job.thread.n job.vt job.next)
-        (standing_after worker new (IsJob (sound new.about) (runs new.about) worker job.thread.n job.vt job.next) job.thread stands changes job_is) job_is
+      (standing_after worker new (IsJob (sound new.about) (runs new.about) worker job.thread.n job.vt job.next) job.thread stands changes job_is) job_is
   found_in sound runs worker new Nothing stands cause changes job_is =
       subst (λ p. ShowsIdle effect (subject_of p) (entries_of p)) (sym changes)
-        (shown effect pool (IsIdle pool.limit (entries_of pool)) stands (record { core = cause.core; is = cause.is; holds = idle_of cause.core cause.holds.1 }))
+      (shown effect pool (IsIdle pool.limit (entries_of pool)) stands (record { core = cause.core; is = cause.is; holds = idle_of cause.core cause.holds.1 }))
   found_in sound runs worker new Limit stands cause changes job_is =
       subst (λ p. ShowsOver effect (subject_of p) (entries_of p)) (sym changes)
-        (shown effect pool (IsOver pool.limit (entries_of pool)) stands (record { core = cause.core; is = cause.is; holds = limit_of cause.core cause.holds.1 }))
+      (shown effect pool (IsOver pool.limit (entries_of pool)) stands (record { core = cause.core; is = cause.is; holds = limit_of cause.core cause.holds.1 }))
   found_in sound runs worker new Finished stands cause changes job_is =
       subst (λ p. ShowsOver effect (subject_of p) (entries_of p)) (sym changes)
-        (shown effect pool (IsOver pool.limit (entries_of pool)) stands (record { core = cause.core; is = cause.is; holds = finished_of cause.core cause.holds.1 }))
+      (shown effect pool (IsOver pool.limit (entries_of pool)) stands (record { core = cause.core; is = cause.is; holds = finished_of cause.core cause.holds.1 }))
+
+  -- the pool stays legal, whatever the answer
+  pub still_stands : {B V : Type 0} (worker : ℕ) (new : PoolState D) (taken : Taken B V D) (P : JobOf B V D → Core → Type 0) → IsStanding effect pool → Changes worker taken pool new →
+      IfJob taken (λ job. InCore effect new (P job)) → IsStanding effect new
+  still_stands worker new Broken P stands changes job_is = subst (IsStanding effect) (sym changes) stands
+  still_stands worker new (Job job) P stands changes job_is = standing_after worker new (P job) job.thread stands changes job_is
+  still_stands worker new Nothing P stands changes job_is = subst (IsStanding effect) (sym changes) stands
+  still_stands worker new Limit P stands changes job_is = subst (IsStanding effect) (sym changes) stands
+  still_stands worker new Finished P stands changes job_is = subst (IsStanding effect) (sym changes) stands
+
+  pub given_up_stands : (new : PoolState D) → IsStanding effect pool → new ≡ record pool { given_up = true } → IsStanding effect new
+  given_up_stands new stands is = subst (IsStanding effect) (sym is) (record { at = stands.at; legal = stands.legal; entries = stands.entries })

@@ -4,3 +4,5 @@ pub mod Answered
 pub mod Sections
 pub mod Working
 pub mod Sending
+pub mod Feeds
+pub mod Settling

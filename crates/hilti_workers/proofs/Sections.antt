@@ -78,7 +78,7 @@ module _ {D V : Type 0} (effect : D → Effect) (runs : D → V → Runs) where
       CanPut effect runs pool w r vt segment
   can_put pool w r vt segment seen own known is (more, begins) mine knows done stands =
       still_done effect runs w r vt segment pool seen more stands (sym begins) (mine ∙ sym knows)
-        (at_some known (subject_of pool) (λ subject. Shows effect subject seen (IsDone (effect subject.body) (runs subject.body) w r vt segment)) is done)
+      (at_some known (subject_of pool) (λ subject. Shows effect subject seen (IsDone (effect subject.body) (runs subject.body) w r vt segment)) is done)
 
   module _ {B : Type 0} (sound : D → Call → Type 0) where
     pub found_seen : {E : Type 0} (res : Result (Taken B V D) E) (w n : ℕ) (about : Option (Subject D)) (first subject : Subject D) (seen entries : List Entry) →
@@ -87,10 +87,10 @@ module _ {D V : Type 0} (effect : D → Effect) (runs : D → V → Runs) where
         IfOk res (λ taken. IsSomeAnd about (λ subject. Found effect sound runs subject n seen taken))
     found_seen res w n about first subject seen entries known same number is found =
         IfOk-weaker res (Found effect sound runs subject w entries) (λ taken. IsSomeAnd about (λ subject. Found effect sound runs subject n seen taken))
-          (λ taken h. of_some about first (λ subject. Found effect sound runs subject n seen taken) known
-            (subst (λ s. Found effect sound runs s n seen taken) same
-              (subst (λ k. Found effect sound runs subject k seen taken) number
-                (subst (λ l. Found effect sound runs subject w l taken) (sym is) h)))) found
+        (λ taken h. of_some about first (λ subject. Found effect sound runs subject n seen taken) known
+        (subst (λ s. Found effect sound runs s n seen taken) same
+        (subst (λ k. Found effect sound runs subject k seen taken) number
+        (subst (λ l. Found effect sound runs subject w l taken) (sym is) h)))) found
 
   module _ (sound : D → Call → Type 0) (facts : D) (w r : ℕ) (vt : Option V) (next : Option Call) (seen : List Entry) where
     pub job_can : (about : Option (Subject D)) → IsSomeAnd about (λ subject. subject.body ≡ facts) →

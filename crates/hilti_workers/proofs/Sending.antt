@@ -45,17 +45,38 @@ module _ (B V D : RattleType) (g : body.Ghosts B.Denot V.Denot D.Denot) where
   fields_send : IsSend V → IsSend (pool.TheInside.the_row B V D g)
   fields_send s = declared_send (pool.TheInside.the_type B V D g) (
     search (send, sendable, crosses) depth 20,
-    (search (crosses, sendable) depth 20,
-    (search sendable depth 20,
-    (search (Calls-send, sendable) depth 20,
-    (search (Vec-send, Event-send, sendable) depth 20,
-    (search sendable depth 20,
-    (search sendable depth 20,
-    (search (crosses, sendable) depth 20,
-    (search sendable depth 20,
-    (search sendable depth 20,
-    (search (Hall-send, s, sendable) depth 20,
-    tt)))))))))))
+    (
+      search (crosses, sendable) depth 20,
+      (
+        search sendable depth 20,
+        (
+          search (Calls-send, sendable) depth 20,
+          (
+            search (Vec-send, Event-send, sendable) depth 20,
+            (
+              search sendable depth 20,
+              (
+                search sendable depth 20,
+                (
+                  search (crosses, sendable) depth 20,
+                  (
+                    search sendable depth 20,
+                    (
+                      search sendable depth 20,
+                      (
+                        search (Hall-send, s, sendable) depth 20,
+                        tt,
+                      ),
+                    ),
+                  ),
+                ),
+              ),
+            ),
+          ),
+        ),
+      ),
+    ),
+  )
 
   pub pool_send : IsSend V → IsSend (pool.the_row B V D g)
   pool_send s = view_send _ _ _ _ _ (fields_send s)

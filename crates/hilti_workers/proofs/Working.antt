@@ -56,12 +56,13 @@ module _ {V D : Type 0} where
   ran_none a = ([], sym (append-nil (mine a)))
 
   pub ran_more : (a b c : Pass V Entry (Subject D)) → IsSamePass a b → RanAll a b → RanOne b c → RanAll a c
-  ran_more a b c same (threads, ran) (thread, one) =
-      (threads ++ thread ∷ [],
-        one
+  ran_more a b c same (threads, ran) (thread, one) = (
+    threads ++ thread ∷ [],
+    one
         ∙ ap (λ w. mine b ++ Take w thread ∷ Put w ∷ []) same.number
         ∙ ap (λ l. l ++ Take (number a) thread ∷ Put (number a) ∷ []) ran
-        ∙ flat_map_more (λ t. Take (number a) t ∷ Put (number a) ∷ []) (mine a) threads thread)
+        ∙ flat_map_more (λ t. Take (number a) t ∷ Put (number a) ∷ []) (mine a) threads thread,
+  )
 
   -- nothing was made in the last turn
   pub ran_same : (a b c : Pass V Entry (Subject D)) → mine c ≡ mine b → RanAll a b → RanAll a c
@@ -70,12 +71,13 @@ module _ {V D : Type 0} where
 module _ {V D : Type 0} (old mid new : Pass V Entry (Subject D)) where
   -- a take, and then its put
   pub ran_one : (thread : ThreadId) → number mid ≡ number old → mine mid ≡ mine old ++ Take (number old) thread ∷ [] → mine new ≡ mine mid ++ Put (number mid) ∷ [] → RanOne old new
-  ran_one thread same took put =
-      (thread,
-        put
+  ran_one thread same took put = (
+    thread,
+    put
         ∙ ap (λ l. l ++ Put (number mid) ∷ []) took
         ∙ append_assoc (mine old) (Take (number old) thread ∷ []) (Put (number mid) ∷ [])
-        ∙ ap (λ w. mine old ++ Take (number old) thread ∷ Put w ∷ []) same)
+        ∙ ap (λ w. mine old ++ Take (number old) thread ∷ Put w ∷ []) same,
+  )
 
   -- a take, and then no put
   pub broke_later : (thread : ThreadId) → mine mid ≡ mine old ++ Take (number old) thread ∷ [] → mine new ≡ mine mid ++ [] → BrokeOff old new

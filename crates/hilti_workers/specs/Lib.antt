@@ -1,4 +1,6 @@
+pub mod Crew
 pub mod Entries
+pub mod Feeding
 pub mod Finding
 pub mod Section
 pub mod Turns

@@ -2,7 +2,10 @@
 //! puts it back, until no more is to come.
 #![tactic(auto)]
 
+mod crew;
+mod feeding;
 mod section;
 mod turns;
 
+pub use crew::work_all;
 pub use turns::{Turned, turn, work};

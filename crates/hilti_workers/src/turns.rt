@@ -173,7 +173,7 @@ fn put_job<R: Wait, B: Body + Send + Sync>(
 }
 
 /// Enters, and gives the pool up.
-fn break_off<R: Wait, B: Body + Send + Sync>(
+pub(crate) fn break_off<R: Wait, B: Body + Send + Sync>(
     turn: &Turn<Pool<B>>,
     rt: &R,
     pass: &mut Pass<Pool<B>>,

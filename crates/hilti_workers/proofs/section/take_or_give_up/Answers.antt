@@ -9,10 +9,10 @@ use Rattle.hilti_workers.proofs.section.take_or_give_up.Goals as goal
 pub take-requires-clause-free : goal.take-requires-clause-free
 take-requires-clause-free g c κs within =
     is_free g.B.Body.effect c.args.worker c.make_room-2.new.self c.in_default.ensures.standing
-      (subst (λ l. AreEven (made_by maker_of c.args.worker l)) (sym (ap entries_of c.in_default.ensures.ok)) c.requires)
+    (subst (λ l. AreEven (made_by maker_of c.args.worker l)) (sym (ap entries_of c.in_default.ensures.ok)) c.requires)
 
 pub returns-clause-found : goal.returns-clause-found
 returns-clause-found g c =
     let e = c.take.ensures in
     found_in g.B.Body.effect c.make_room-2.new.self g.B.Body.sound g.B.Body.runs c.args.worker c.take.new.self c.take.result
-      c.in_default.ensures.standing e.cause e.pool e.job
+    c.in_default.ensures.standing e.cause e.pool e.job

@@ -17,14 +17,14 @@ pub leave-requires-clause-grows : goal.leave-requires-clause-grows
 leave-requires-clause-grows g c κs within =
     let pass = c.enter-pool.new.pass in
     goes_on (number pass) (number pass) (seen pass) (entries_of c.give_up.new.self) [] refl
-      (ap entries_of c.give_up.ensures ∙ sym c.enter-pool.ensures.seen ∙ sym (append-nil (seen pass)))
-      (All-nil (λ e. maker_of e ≡ number pass))
+    (ap entries_of c.give_up.ensures ∙ sym c.enter-pool.ensures.seen ∙ sym (append-nil (seen pass)))
+    (All-nil (λ e. maker_of e ≡ number pass))
 
 pub returns-clause-knows : goal.returns-clause-knows
 returns-clause-knows g c =
     let e = c.enter-pool.ensures in
     let old = c.args.pass.now in
     knows_there (number c.leave.new.pass) (number old) (number old) (λ _. []) (entries_of c.enter-pool.result) (entries_of c.give_up.new.self)
-      (seen c.enter-pool.new.pass) (seen c.leave.new.pass) (mine old) (mine c.enter-pool.new.pass) (mine c.leave.new.pass)
-      (All-nil (λ e. maker_of e ≡ number old)) (c.leave.ensures.same.number ∙ e.same.number) refl e.own_entries
-      (ap entries_of c.give_up.ensures ∙ sym (append-nil (entries_of c.enter-pool.result))) e.seen c.leave.ensures.seen e.mine c.leave.ensures.mine
+    (seen c.enter-pool.new.pass) (seen c.leave.new.pass) (mine old) (mine c.enter-pool.new.pass) (mine c.leave.new.pass)
+    (All-nil (λ e. maker_of e ≡ number old)) (c.leave.ensures.same.number ∙ e.same.number) refl e.own_entries
+    (ap entries_of c.give_up.ensures ∙ sym (append-nil (entries_of c.enter-pool.result))) e.seen c.leave.ensures.seen e.mine c.leave.ensures.mine

@@ -7,4 +7,4 @@ run-requires-after_bounds g c κs within =
     let job = c.args.job in
     let pass = c.args.pass.now in
     job_can g.B.Body.effect g.B.Body.runs g.B.Body.sound (g.B.Body.facts c.args.body.now) (number pass) job.thread.n job.vt job.next (seen pass) (about pass)
-      c.requires.about c.requires.job
+    c.requires.about c.requires.job

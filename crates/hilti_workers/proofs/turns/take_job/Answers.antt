@@ -18,5 +18,5 @@ returns-clause-knows g c =
     let e = c.enter-pool.ensures in
     let old = c.args.pass.now in
     knows_there (number c.leave.new.pass) (number old) c.number.result (λ w. entries_of_take w c.take_or_give_up-taken.result) (entries_of c.enter-pool.result) (entries_of c.take_or_give_up-taken.new.pool)
-      (seen c.enter-pool.new.pass) (seen c.leave.new.pass) (mine old) (mine c.enter-pool.new.pass) (mine c.leave.new.pass)
-      (all_taken (number old) c.take_or_give_up-taken.result) (c.leave.ensures.same.number ∙ e.same.number) (c.number.ensures ∙ e.same.number) e.own_entries c.take_or_give_up-taken.ensures.entries e.seen c.leave.ensures.seen e.mine c.leave.ensures.mine
+    (seen c.enter-pool.new.pass) (seen c.leave.new.pass) (mine old) (mine c.enter-pool.new.pass) (mine c.leave.new.pass)
+    (all_taken (number old) c.take_or_give_up-taken.result) (c.leave.ensures.same.number ∙ e.same.number) (c.number.ensures ∙ e.same.number) e.own_entries c.take_or_give_up-taken.ensures.entries e.seen c.leave.ensures.seen e.mine c.leave.ensures.mine
