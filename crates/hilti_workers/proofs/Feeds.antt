@@ -1,5 +1,5 @@
 -- What feeding one call after another leaves.
-use Rattle.std.proofs.Common.{◌≡◌, ℕ, ◌+◌, ◌≤◌, List, [], ◌∷◌, ◌++◌, length, drop, Bool, true, false, Option, Some, None, IfSome, MatchOption, Result, Ok, Err, refl, ap, sym, ◌∙◌, subst, arith, inl, inr, ◌⊎◌, append_assoc, append-nil}
+use Rattle.std.proofs.Common.{◌≡◌, ℕ, ◌+◌, ◌≤◌, List, [], ◌∷◌, ◌++◌, length, drop, Bool, true, false, Option, Some, None, IfSome, MatchOption, IsSome, Result, Ok, Err, refl, ap, sym, ◌∙◌, subst, arith, inl, inr, ◌⊎◌, append_assoc, append-nil}
 use Rattle.std.specs.List.{All}
 use Rattle.std.proofs.lemmas.List.Elements.{All-nil, All-cons, All-push}
 use mathlib.Core.List.{IsPrefix}
@@ -8,6 +8,8 @@ use Rattle.hilti_outside.specs.Faults.{Rose}
 use Rattle.hilti_feeder.specs.Feeding.{Gave, WasEmpty, BecameLost, CountsFaults}
 use Rattle.hilti_pool.specs.declared.entries.Entry.{Entry}
 use Rattle.hilti_pool.specs.declared.entries.Entry.TheVariants.{Feed, FeedEnd}
+use Rattle.hilti_core.specs.declared.event.Event.{Event}
+use Rattle.hilti_pool.specs.State.{PoolState, end_of}
 use Rattle.hilti_pool.specs.Entries.{maker_of}
 use Rattle.hilti_workers.specs.Entries.{calls_in, takes_in, puts_in}
 use Rattle.hilti_workers.specs.Feeding.{WereGiven, Feeds, entries_of_feed}
@@ -127,3 +129,11 @@ pub ended_mine : (seen first last added old before after : List Entry) → seen 
 ended_mine seen first last added old before after is adds which same grows =
     let grown : after ≡ old ++ added = mine_there 0 0 seen first last (λ _. added) old before after refl is adds same grows in
     elim which [ inl none ↦ inl (grown ∙ ap (λ l. old ++ l) none ∙ append-nil old) | inr one ↦ inr (grown ∙ ap (λ l. old ++ l) one) ]
+
+some_end : (ended : Option ℕ) (journal : List Event) → IsSome (end_of ended journal)
+some_end None journal = refl
+some_end (Some place) journal = refl
+
+-- a pool whose feed was ended has its end
+pub ended_some : {D : Type 0} (old new : PoolState D) → new ≡ record old { ended = end_of old.ended old.journal } → IsSome new.ended
+ended_some old new is = subst (λ p. IsSome p.ended) (sym is) (some_end old.ended old.journal)

@@ -1,7 +1,7 @@
 //! What the pass that feeds does: it feeds all that comes, and marks the end of the feed.
-ghost use Rattle.std.specs.Prelude.{◌≡◌, ◌++◌, ◌∷◌, [], ◌⊎◌, IsSomeAnd, OnOk};
+ghost use Rattle.std.specs.Prelude.{◌≡◌, ◌++◌, ◌∷◌, [], ◌⊎◌, IsSomeAnd, OnOk, Contains};
 ghost use Rattle.hilti_tree.specs.declared.call.Call.{Call};
-ghost use Rattle.hilti_turn.specs.Passes.{number, about, mine, IsSamePass};
+ghost use Rattle.hilti_turn.specs.Passes.{number, about, seen, mine, IsSamePass};
 ghost use Rattle.hilti_workers.specs.Turns.{IsAtHand};
 ghost use Rattle.hilti_pool.specs.declared.entries.Entry.{Entry};
 ghost use Rattle.hilti_workers.specs.Feeding.{Feeds, WasRead, entries_of_feed};
@@ -16,8 +16,8 @@ use hilti_tree::Call;
 use hilti_turn::{Pass, Turn};
 use std::sync::Wait;
 
-/// Feeds all that comes, and marks the end of the feed. Without memory the pool is given up.
-pub(crate) fn feed_all<R: Wait, B: Body + Send + Sync, F: Feeder>(
+/// Pass 0 feeds all that comes, and marks the end of the feed. Without memory the pool is given up.
+pub fn feed_all<R: Wait, B: Body + Send + Sync, F: Feeder>(
     turn: &Turn<Pool<B>>,
     rt: &R,
     pass: &mut Pass<Pool<B>>,
@@ -34,6 +34,7 @@ pub(crate) fn feed_all<R: Wait, B: Body + Send + Sync, F: Feeder>(
     ensures read { OnOk result (WasRead (F.origin feeder.old) (F.origin feeder.new)
         (F.faults feeder.old) (F.faults feeder.new) (F.lost feeder.old) (F.lost feeder.new)
         (F.ended feeder.new)) }
+    ensures ended { OnOk result (Contains (seen pass.new) Entry.FeedEnd) }
 {
     for _ in rt.forever() {
         match feeder.next() {
@@ -79,6 +80,7 @@ fn end_feed<R: Wait, B: Body + Send + Sync>(turn: &Turn<Pool<B>>, rt: &R, pass: 
     ensures same { IsSamePass pass.old pass.new }
     ensures mine { (mine pass.new ≡ mine pass.old)
         ⊎ (mine pass.new ≡ mine pass.old ++ Entry.FeedEnd ∷ []) }
+    ensures ended { Contains (seen pass.new) Entry.FeedEnd }
 {
     let mut pool = turn.enter(rt, pass);
     pool.end_feed();

@@ -2,10 +2,9 @@
 //! puts it back, until no more is to come.
 #![tactic(auto)]
 
-mod crew;
 mod feeding;
 mod section;
 mod turns;
 
-pub use crew::work_all;
+pub use feeding::feed_all;
 pub use turns::{Turned, turn, work};
