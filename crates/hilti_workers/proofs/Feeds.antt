@@ -1,5 +1,5 @@
 -- What feeding one call after another leaves.
-use Rattle.std.proofs.Common.{◌≡◌, ℕ, ◌+◌, ◌≤◌, List, [], ◌∷◌, ◌++◌, length, drop, Bool, true, false, Option, Some, None, IfSome, MatchOption, IsSome, Result, Ok, Err, refl, ap, sym, ◌∙◌, subst, arith, inl, inr, ◌⊎◌, append_assoc, append-nil}
+use Rattle.std.proofs.Common.{◌≡◌, ℕ, ◌+◌, ◌≤◌, List, [], ◌∷◌, ◌++◌, length, drop, Bool, true, false, Option, Some, None, IfSome, IfNone, MatchOption, IsSome, Result, Ok, Err, refl, ap, sym, ◌∙◌, subst, arith, inl, inr, ◌⊎◌, append_assoc, append-nil}
 use Rattle.std.specs.List.{All}
 use Rattle.std.proofs.lemmas.List.Elements.{All-nil, All-cons, All-push}
 use mathlib.Core.List.{IsPrefix}
@@ -137,3 +137,10 @@ some_end (Some place) journal = refl
 -- a pool whose feed was ended has its end
 pub ended_some : {D : Type 0} (old new : PoolState D) → new ≡ record old { ended = end_of old.ended old.journal } → IsSome new.ended
 ended_some old new is = subst (λ p. IsSome p.ended) (sym is) (some_end old.ended old.journal)
+
+-- what holds of what an option has
+pub some_has : {A : Type 0} (o : Option A) (x : A) (P : A → Type 0) → o ≡ Some x → IfSome o P → P x
+some_has o x P is h = subst (λ o. IfSome o P) is h
+
+pub none_has : {A : Type 0} (o : Option A) (P : Type 0) → o ≡ None → IfNone o P → P
+none_has o P is h = subst (λ o. IfNone o P) is h
