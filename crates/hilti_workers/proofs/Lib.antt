@@ -5,4 +5,3 @@ pub mod Sections
 pub mod Working
 pub mod Sending
 pub mod Feeds
-pub mod Settling

@@ -1,4 +1,3 @@
-pub mod Crew
 pub mod Entries
 pub mod Feeding
 pub mod Finding
